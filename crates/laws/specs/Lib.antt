@@ -1,0 +1,10 @@
+-- Laws on loops and lists, one file a kind of loop.
+pub mod Tests
+pub mod Below
+pub mod Sum
+pub mod First
+pub mod Last
+pub mod Table
+pub mod Grown
+pub mod Swept
+pub mod Refusals
