@@ -5,3 +5,4 @@ pub mod Whole
 pub mod Rank
 pub mod Grow
 pub mod Between
+pub mod Rising
