@@ -12,7 +12,7 @@ use lib.Ieee.Fits.{up-pos, down-pos, and-l, and-r, round-fits, neg-fits, round-i
 use lib.Ieee.Exact.{HasValue, round-exact}
 use lib.Ieee.Order.{round-mono, le-of-values}
 use Rattle.float.specs.Numbers.{real, finite}
-use Rattle.float.specs.Rank.{rank, grid, mid, shift, grid-is, grid-lt, le→, →le, le-chain, le-real}
+use Rattle.float.specs.Rank.{rank, grid, mid, shift, shifted, grid-shift, grid-lt, le→, →le, le-chain, le-real}
 
 -- ---- the sign goes through `round`
 neg-odd : (d : ℕ) (q k l : ℕ) → odd d true q k l ≡ neg (odd d false q k l)
@@ -80,10 +80,8 @@ small f s (suc m) e h =
 
 pub own : (f : Format) (s t : Bool) (m : ℕ) (e : ℤ) → T (fits f (fin s m e)) → HasValue (round f t (m * up e) (down e)) t (m * up e) (down e)
 own f s t m e h =
-    let j = shift f s m e h .0 in
-    let q : m * up e * 2 ^ low f ≡ m * 2 ^ j * down e = mul-assoc m (up e) (2 ^ low f) ∙ ap (λ (x : ℕ). m * x) (shift f s m e h .1) ∙ sym (mul-assoc m (2 ^ j) (down e)) in
-    let g : grid f m e ≡ m * 2 ^ j = eq-of-mul-eq-mul-right (down e) (down-pos e) (grid f m e) (m * 2 ^ j) (grid-is f s m e h ∙ q) in
-    round-exact f t (m * up e) (down e) m j (down-pos e) (small f s m e h) (subst (λ (x : ℕ). x < mid f) g (grid-lt f s m e h)) q
+    round-exact f t (m * up e) (down e) m (shift f s m e h .0) (down-pos e) (small f s m e h)
+    (subst (λ (x : ℕ). x < mid f) (grid-shift f s m e h) (grid-lt f s m e h)) (shifted f s m e h)
 
 same-fits : (f : Format) (s t : Bool) (m : ℕ) (e : ℤ) → T (fits f (fin s m e)) → T (fits f (fin t m e))
 unfolding fits

@@ -10,4 +10,6 @@ pub mod SinCos
 pub mod Rank
 pub mod Grow
 pub mod Between
+pub mod Top
+pub mod Stepped
 pub mod Rising
