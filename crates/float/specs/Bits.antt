@@ -1,10 +1,11 @@
 -- Laws on bit patterns and on the test `x != x`, which other crates cite.
 use Prim.Native.Nat.{ℕ, zero, suc, _+_, _%_, _/_}
 use mathlib.Core.Path.{_≡_, refl, sym, ap, _∙_, subst}
-use mathlib.Core.Bool.{Bool, true, false, not, cond, _&&_}
+use mathlib.Core.Bool.{Bool, true, false, not, cond}
 use lib.Dec.{T, eqb}
 use lib.Ieee.{Float, nan, inf, fin, binary32, isNan, eq, ne, fits, toBits, ofBits, ofFields, odd, nanBits}
 use lib.Ieee.Bits.{ofBits-toBits}
+use lib.Ieee.Exact.{HasValue}
 use lib.Ieee.Compare.{differs-from-itself}
 use borrow.Author.Tests.{eqb-true, eq-eqb, not-true}
 use Rattle.laws.specs.Tests.{and-2}
@@ -40,6 +41,12 @@ unfolding isNan
 real-number nan r = absurd r
 real-number (inf s) r = refl
 real-number (fin s m e) r = refl
+
+-- what has the value a / c is finite
+pub value-finite : (x : Float) (s : Bool) (a c : ℕ) → HasValue x s a c → T (finite x)
+value-finite nan s a c v = absurd v
+value-finite (inf t) s a c v = absurd v
+value-finite (fin t m e) s a c v = tt
 
 -- ---- the same bits
 -- a number, or an infinity, is the same as itself

@@ -1,16 +1,16 @@
 -- The order of floats as the order of natural numbers. Every float of a format but a NaN has a rank, and `lt`, `eq` and `le` compare the ranks.
 -- So `le` is transitive and total, and a goal about the order of floats becomes one about numbers. The laws to cite are at the end.
 use mathlib.Core.Path.{_≡_, refl, sym, ap, _∙_, subst, subst₂}
-use mathlib.Core.Logic.{_⊎_, inl, inr, ⊎-elim}
-use mathlib.Core.Bool.{Bool, true, false, not, cond, _&&_, _||_, Bool·beq, true≢false, false≢true}
+use mathlib.Core.Logic.{_⊎_, inl, inr}
+use mathlib.Core.Bool.{Bool, true, false, not, _&&_, _||_}
 use Prim.Native.Nat.{ℕ, zero, suc, _+_, _-_, _*_, _/_, _%_, _^_, _≤_, _<_, zero-le}
-use native.Mathlib.Nat.{le-trans, le-of-eq, lt-of-le-of-lt, lt-of-not-le, not-le-of-lt, lt-irrefl, mul-one, one-mul, zero-mul, mul-comm, mul-assoc, mul-right-comm, mul-left-comm, mul-pos, mul-div-cancel, mul-lt-mul-of-pos-right, lt-of-mul-lt-mul-right, eq-of-mul-eq-mul-right, pow-suc, le-antisymm, le-of-lt, ne-of-lt, ne-of-gt, not-suc-le-zero}
+use native.Mathlib.Nat.{le-trans, le-of-eq, not-le-of-lt, mul-one, one-mul, zero-mul, mul-comm, mul-assoc, mul-right-comm, mul-pos, mul-div-cancel, mul-lt-mul-of-pos-right, lt-of-mul-lt-mul-right, eq-of-mul-eq-mul-right, pow-suc, le-antisymm, le-of-lt, ne-of-lt, ne-of-gt, not-suc-le-zero}
 use native.Mathlib.Omega.{arith}
 use lib.IntN.{ℤ, pos, negsuc}
-use lib.Dec.{T, T-not, leb, ltb, eqb, leb→le, ltb→lt, eqb→eq, le→leb, lt→ltb, nltb→le}
+use lib.Dec.{T, leb, ltb, eqb, leb→le, ltb→lt, eqb→eq, le→leb, lt→ltb, nltb→le}
 use lib.Pow.{pow-add, pow-pos, pow-lt}
-use lib.Ieee.{Float, nan, inf, fin, Format, binary32, binary64, prec, emax, low, up, down, lt, le, eq, neg, fits, isNan, level, below}
-use lib.Ieee.Fits.{up-pos, down-pos, and-l, and-r, and-i, eq→eqb}
+use lib.Ieee.{Float, nan, inf, fin, Format, prec, emax, low, up, down, lt, le, eq, fits}
+use lib.Ieee.Fits.{down-pos, and-l, and-r}
 use Rattle.float.specs.Numbers.{real}
 use borrow.Author.Tests.{ltb-false, lt-ltb, le-ltb, le-leb, lt-leb, eq-eqb, ne-eqb}
 

@@ -1,34 +1,27 @@
 -- Laws on the values of Step keys (`StepValue`), which other crates cite: which values `wholeIn16` passes, and that an edit's value is one of them.
-use Prim.Native.Nat.{ℕ, zero, suc, _+_, _*_, _/_, _^_, _≤_, _<_, min}
+use Prim.Native.Nat.{ℕ, zero, suc, _+_, _*_, _/_, _≤_, _<_, min}
 use mathlib.Core.Path.{_≡_, refl, sym, ap, _∙_, subst}
 use mathlib.Core.Bool.{Bool, true, false, cond, _&&_, _||_, true≢false, false≢true}
 use native.Mathlib.Nat.{zero-lt-suc, zero-div}
 use native.Mathlib.Omega.{arith}
-use lib.IntN.{ℤ, pos}
+use lib.IntN.{pos}
 use lib.Dec.{T, ltb, eqb, le→leb}
 use borrow.Author.Tests.{ltb-true, ltb-false, eqb-true}
 use lib.Ieee.{Float, nan, inf, fin, binary32, up, down, lt, eq, le, fits, inFloat, isNan, round, ofBits, toBits, ofInt, toUnsigned}
-use lib.Ieee.Fits.{round-fits, ofInt-fits, cond-fits, down-pos}
+use lib.Ieee.Fits.{round-fits, ofInt-fits}
 use lib.Ieee.Bits.{is-true}
 use lib.Ieee.Casts.{toUnsigned-lt}
-use lib.Ieee.Exact.{HasValue}
 use lib.Ieee.Back.{round-whole, unsigned-back}
 use lib.Ieee.Order.{round-mono}
-use Rattle.float.specs.Numbers.{#, zero', real, finite, sameBits}
-use Rattle.float.specs.Bits.{same-self, same-equal, finite-real}
+use Rattle.float.specs.Numbers.{#, zero', finite, sameBits}
+use Rattle.float.specs.Bits.{same-self, same-equal, finite-real, value-finite}
 use Rattle.float.specs.Clamp.{clampOf, ceilAt}
 use Rattle.float.specs.Whole.{wholeOf}
 use Rattle.float.specs.StepValue.{wholeIn16, lastU16, heldU16, plusZero, stepValue}
 use Rattle.float.specs.Rank.{le-not-lt, lt-chain, le-chain, lt-not-eq}
 use Rattle.float.specs.Grow.{over, under}
-use Rattle.float.specs.Between.{clamp-fits}
 
 -- ---- what `wholeIn16` says
-value-finite : (x : Float) (s : Bool) (a c : ℕ) → HasValue x s a c → T (finite x)
-value-finite nan s a c v = absurd v
-value-finite (inf t) s a c v = absurd v
-value-finite (fin t m e) s a c v = tt
-
 cut-back : (n : ℕ) → n < 65536 → toUnsigned 16 (ofInt binary32 (pos n)) ≡ n
 unfolding inFloat
 cut-back n h = unsigned-back binary32 16 n (le→leb n 16777216 (omega arith)) h .1
