@@ -5,3 +5,4 @@
 pub mod bits;
 pub mod curves;
 pub mod random;
+pub mod sample;

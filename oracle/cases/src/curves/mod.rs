@@ -2,6 +2,7 @@
 //! document 01's key rules, and a finite frame.
 
 pub mod all_short;
+pub mod sample;
 pub mod some;
 
 use crate::bits::bits_of;
