@@ -1,7 +1,7 @@
 -- Names: fields of 24 bytes (document 01, "Sheet and book": zero bytes at its end don't count). Assumes nothing.
 use Prim.Native.Nat.{ℕ, _+_, _*_, _<_, _≤_}
 use mathlib.Core.List.{List}
-use mathlib.Core.Bool.{Bool}
+use mathlib.Core.Bool.{Bool, not, _&&_}
 use lib.ListN.{length, take, drop}
 use lib.Dec.{eqb}
 use Rattle.laws.specs.Below.{allBelow}
@@ -38,6 +38,17 @@ rowNamed s base stride t j i = sameName s (base + i * stride) t j
 -- the first of its rows that has that name
 unfoldable pub findName : List ℕ → ℕ → ℕ → ℕ → List ℕ → ℕ → Found
 findName s base stride rows t j = firstBelow rows (rowNamed s base stride t j)
+
+-- row i has a name, and no earlier row has the same
+unfoldable pub otherName : List ℕ → ℕ → ℕ → ℕ → ℕ → Bool
+otherName s base stride i j = not (sameName s (base + j * stride) s (base + i * stride))
+
+unfoldable pub nameOk : List ℕ → ℕ → ℕ → ℕ → Bool
+nameOk s base stride i = not (emptyName s (base + i * stride)) && allBelow i (otherName s base stride i)
+
+-- the names of the rows are distinct and not empty
+unfoldable pub namesOk : List ℕ → ℕ → ℕ → ℕ → Bool
+namesOk s base stride rows = allBelow rows (nameOk s base stride)
 
 -- the fields of the table's names lie within s
 pub record Fields (s : List ℕ) (base stride rows : ℕ) : Type 0 where

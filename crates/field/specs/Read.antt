@@ -7,6 +7,7 @@ use borrow.Author.Tests.{not-true}
 use lib.Dec.{eqb, leb, T}
 use lib.Ieee.{Float, inf, nan, binary32, ofBits, ofFields, odd, nanBits, top, hid}
 use lib.ListN.{getD}
+use Rattle.laws.specs.Below.{allBelow}
 use Rattle.float.specs.Numbers.{#, finite}
 
 -- the byte at i, 0 past the end
@@ -28,6 +29,14 @@ floatAt s i = # (u32At s i)
 -- the f32 at i is finite
 unfoldable pub finiteAt : List ℕ → ℕ → Bool
 finiteAt s i = finite (floatAt s i)
+
+-- the k-th of a row of f32s that starts at i is finite
+unfoldable pub finiteIn : List ℕ → ℕ → ℕ → Bool
+finiteIn s i k = finiteAt s (i + k * 4)
+
+-- the n f32s from i on are finite
+unfoldable pub finiteRow : List ℕ → ℕ → ℕ → Bool
+finiteRow s i n = allBelow n (finiteIn s i)
 
 -- A pattern stands for a finite value exactly when its exponent's field is not all ones.
 abbrev pub finitePattern : ℕ → Bool
