@@ -1,0 +1,5 @@
+-- Document 01, "Curves".
+pub mod Keys
+pub mod Before
+pub mod Span
+pub mod Curve
