@@ -8,7 +8,7 @@ use lib.ListN.{length, getD}
 use lib.Ieee.{Float, nan, le, toUnsigned}
 use Rattle.float.specs.Numbers.{zero'}
 use Rattle.float.specs.Rising.{rising, risingIn}
-use Rattle.curve.specs.Keys.{keyAt, before}
+use Rattle.curve.specs.Keys.{partOf, keyAt, before}
 use Rattle.curve.specs.Span.{spanOf}
 use Rattle.curve.specs.declared.Taken.{Taken}
 use Rattle.curve.specs.declared.Taken.the-variants.{Nothing, One, Two}
@@ -66,8 +66,15 @@ abbrev pub hermite : List Float → List Float → List Float → Float → Floa
 hermite fs vs ss x = evalCurve kindHermite fs vs ss x
 
 -- The same as u16: the value cut. (A Step value is whole in 0..65,535, so its cut is the value itself.)
-unfoldable pub evalCurveStepU16 : ℕ → List Float → List Float → List Float → Float → ℕ
+abbrev pub evalCurveStepU16 : ℕ → List Float → List Float → List Float → Float → ℕ
 evalCurveStepU16 kind fs vs ss x = toUnsigned 16 (evalCurve kind fs vs ss x)
+
+-- Both over a part of the whole arrays: nothing outside the part is seen.
+abbrev pub evalPart : ℕ → ℕ → ℕ → List Float → List Float → List Float → Float → Float
+evalPart kind first count fs vs ss x = evalCurve kind (partOf first count fs) (partOf first count vs) (partOf first count ss) x
+
+abbrev pub evalPartStepU16 : ℕ → ℕ → ℕ → List Float → List Float → List Float → Float → ℕ
+evalPartStepU16 kind first count fs vs ss x = evalCurveStepU16 kind (partOf first count fs) (partOf first count vs) (partOf first count ss) x
 
 -- What an evaluation asks of its keys: each has its three numbers, and, Constant apart, the frames never fall.
 abbrev pub Ordered : ℕ → List Float → Type 0

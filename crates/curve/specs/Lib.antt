@@ -3,3 +3,5 @@ pub mod Keys
 pub mod Before
 pub mod Span
 pub mod Curve
+pub mod Cases
+pub mod Parts

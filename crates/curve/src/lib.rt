@@ -7,7 +7,8 @@ ghost use lib.ListN.{length};
 ghost use Rattle.float.specs.Rising.{rising};
 ghost use Rattle.curve.specs.Keys.{partOf, keyAt, before};
 ghost use Rattle.curve.specs.Span.{spanOf};
-ghost use Rattle.curve.specs.Curve.{hermiteTaken, curveTaken, valueOf, reach, Ordered};
+ghost use Rattle.curve.specs.Curve.{kindHermite, hermiteTaken, curveTaken, valueOf, reach, Ordered};
+ghost use Rattle.curve.specs.Curve.{Readable, ReadablePart, evalCurve, hermite, evalCurveStepU16, evalPart, evalPartStepU16};
 
 // A curve's kind, as a target's row of the sheet has it.
 pub const CONSTANT: u8 = 0;
@@ -142,4 +143,66 @@ fn value_of(frames: &[f32], values: &[f32], slopes: &[f32], x: f32, t: Taken) ->
             span(k0, k1, x)
         }
     }
+}
+
+// The Rust's eval_curve: what a curve of this kind, with these keys, gives at x.
+pub fn eval_curve(kind: u8, frames: &[f32], values: &[f32], slopes: &[f32], x: f32) -> f32
+    requires { ⌜ Readable kind (now frames) (now values) (now slopes) ⌝ }
+    ensures { λ r. ⌜ r ≡ evalCurve kind (now (frames .entry)) (now (values .entry)) (now (slopes .entry)) x ⌝ }
+{
+    let t = curve_taken(kind, frames, x);
+    value_of(frames, values, slopes, x, t)
+}
+
+// The Rust's eval_hermite.
+pub fn eval_hermite(frames: &[f32], values: &[f32], slopes: &[f32], x: f32) -> f32
+    requires { ⌜ Readable kindHermite (now frames) (now values) (now slopes) ⌝ }
+    ensures { λ r. ⌜ r ≡ hermite (now (frames .entry)) (now (values .entry)) (now (slopes .entry)) x ⌝ }
+{
+    eval_curve(HERMITE, frames, values, slopes, x)
+}
+
+// The Rust's eval_curve_step_u16: the same as u16.
+pub fn eval_curve_step_u16(kind: u8, frames: &[f32], values: &[f32], slopes: &[f32], x: f32) -> u16
+    requires { ⌜ Readable kind (now frames) (now values) (now slopes) ⌝ }
+    ensures { λ r. ⌜ r ≡ evalCurveStepU16 kind (now (frames .entry)) (now (values .entry)) (now (slopes .entry)) x ⌝ }
+{
+    float::cut_u16(eval_curve(kind, frames, values, slopes, x))
+}
+
+// The curve that owns `count` keys from `first` on of the whole arrays.
+pub fn eval_part(
+    kind: u8,
+    frames: &[f32],
+    values: &[f32],
+    slopes: &[f32],
+    first: usize,
+    count: usize,
+    x: f32,
+) -> f32
+    requires { ⌜ ReadablePart kind first count (now frames) (now values) (now slopes) ⌝ }
+    ensures { λ r. ⌜ r ≡ evalPart kind first count (now (frames .entry)) (now (values .entry)) (now (slopes .entry)) x ⌝ }
+{
+    eval_curve(
+        kind,
+        part(frames, first, count),
+        part(values, first, count),
+        part(slopes, first, count),
+        x,
+    )
+}
+
+pub fn eval_part_step_u16(
+    kind: u8,
+    frames: &[f32],
+    values: &[f32],
+    slopes: &[f32],
+    first: usize,
+    count: usize,
+    x: f32,
+) -> u16
+    requires { ⌜ ReadablePart kind first count (now frames) (now values) (now slopes) ⌝ }
+    ensures { λ r. ⌜ r ≡ evalPartStepU16 kind first count (now (frames .entry)) (now (values .entry)) (now (slopes .entry)) x ⌝ }
+{
+    float::cut_u16(eval_part(kind, frames, values, slopes, first, count, x))
 }

@@ -4,58 +4,42 @@ use borrow.Author.Needs.{needs}
 use Rattle.curve.specs.Curve.{valueOf, reach}
 use Rattle.curve.proofs.value_of.Statement.{statement}
 use Rattle.curve.proofs.value_of.Tie as tie
-use Rattle.curve.proofs.value_of.Reads as reads
-use Rattle.curve.proofs.value_of.Lts as lts
-use Rattle.curve.proofs.key_at.Reads as key-at-reads
-use Rattle.curve.proofs.span.Reads as span-reads
 
--- src/lib.rt:135:27
 enum-told : tie.Need-enum-told
 enum-told c = search needs
 
--- src/lib.rt:136:20
 enum-known-t : tie.Need-enum-known-t
 enum-known-t c = search needs
 
--- src/lib.rt:136:26
 mul-result : tie.Need-mul-result
 mul-result c = record { fits = omega (arith, ap reach (c .before .t .given .1)) }
 
--- src/lib.rt:136:26
 shared-slice-read-result : tie.Need-shared-slice-read-result
 shared-slice-read-result c = omega (arith, ap reach (c .before .before .t .given .1))
 
--- src/lib.rt:137:20
 enum-known-t-2 : tie.Need-enum-known-t-2
 enum-known-t-2 c = search needs
 
--- src/lib.rt:138:17
 key-at-requires : tie.Need-key-at-requires
 key-at-requires c κs = omega (arith, ap reach (c .before .t2 .given .1))
 
--- src/lib.rt:139:53
 add-key-at : tie.Need-add-key-at
 add-key-at c = record { fits = omega (arith, ap reach (c .before .before .t2 .given .1)) }
 
--- src/lib.rt:139:17
 key-at-requires-2 : tie.Need-key-at-requires-2
 key-at-requires-2 c κs = omega (arith, ap reach (c .before .before .t2 .given .1))
 
--- src/lib.rt:140:13
 span-requires : tie.Need-span-requires
 span-requires c κs = search needs
 
--- src/lib.rt:130:1
 returns : tie.Need-returns
 unfolding valueOf
 returns c = rw (c .enum-told .given .1)
 
--- src/lib.rt:130:1
 returns-2 : tie.Need-returns-2
 unfolding valueOf
 returns-2 c = rw (c .before .before .t .given .1)
 
--- src/lib.rt:130:1
 returns-3 : tie.Need-returns-3
 unfolding valueOf
 returns-3 c =
