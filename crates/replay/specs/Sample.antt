@@ -1,11 +1,10 @@
 -- Stored samples of the Rust's answers (document 01, "Hollow builds": a program runs all others against the Rust). Assumes nothing.
-use Prim.Native.Nat.{ℕ, _+_, _*_, _≤_}
+use Prim.Native.Nat.{ℕ, _+_, _≤_}
 use mathlib.Core.Bool.{Bool, cond}
 use mathlib.Core.List.{List}
 use lib.Dec.{eqb}
 use lib.ListN.{length}
 use lib.Ieee.{Float, binary32, isNan, toBits}
-use Rattle.field.specs.Read.{finiteAt}
 use Rattle.replay.specs.declared.Step.{Step}
 
 -- the bits that stand for every NaN in a sample
@@ -15,10 +14,6 @@ nanStored = 0x7fc0_0000
 -- x is the answer stored by these bits; all NaNs count as one
 unfoldable pub sameAnswer : Float → ℕ → Bool
 sameAnswer x bits = cond (isNan x) (eqb bits nanStored) (eqb (toBits binary32 x) bits)
-
--- the i-th of the f32 that stand each `stride` bytes on from `at` is finite
-unfoldable pub finiteIn : List ℕ → ℕ → ℕ → ℕ → Bool
-finiteIn s at stride i = finiteAt s (at + i * stride)
 
 -- What a record's replay says: it ends within the sample, has room for its cases, and no more differ than there are.
 pub record Stepped (s : List ℕ) (at : ℕ) (r : Step) : Type 0 where

@@ -2,17 +2,21 @@
 // A sample is a family's number, three zero bytes, how many cases follow (u32), and the family's records.
 mod curves;
 
+use libc::STDOUT_FILENO;
 ghost use mathlib.Core.Path.{_≡_};
-ghost use Prim.Native.Nat.{ℕ, _+_, _*_, _<_, _≤_};
+ghost use mathlib.Core.Bool.{cond};
+ghost use Prim.Native.Nat.{ℕ, _<_, _≤_};
 ghost use lib.ListN.{length};
-ghost use Rattle.laws.specs.Below.{allBelow};
-ghost use Rattle.replay.specs.Sample.{Stepped, sameAnswer, finiteIn};
+ghost use Rattle.replay.specs.Sample.{Stepped, sameAnswer};
 
 // The families.
 pub const CURVES: u8 = 1;
 
 // How many bytes a sample's head takes.
 const HEAD: usize = 8;
+
+// The longest sample: what is longer is told so.
+const LONGEST: usize = 65536;
 
 // One record replayed: where the next begins, its cases, and how many of them differ. A damaged record ends where it begins.
 pub struct Step {
@@ -38,20 +42,11 @@ fn same_answer(x: f32, bits: u32) -> bool
     f32::to_bits(x) == bits
 }
 
-// Whether n floats, each `stride` bytes on from `at`, are finite.
-fn all_finite(s: &[u8], at: usize, stride: usize, n: usize) -> bool
-    requires { ⌜ (0 < stride) × (3 < stride) × (at + n * stride ≤ length (now s)) ⌝ }
-    ensures { λ r. ⌜ r ≡ allBelow n (finiteIn (now (s .entry)) at stride) ⌝ }
+// 1 for a case that differs.
+fn missed(same: bool) -> usize
+    ensures { λ r. ⌜ (r ≡ cond same 0 1) × (r ≤ 1) ⌝ }
 {
-    let mut i = 0;
-    while i < n {
-        if field::finite_at(s, at + i * stride) {
-            i += 1;
-        } else {
-            return false;
-        }
-    }
-    true
+    if same { 0 } else { 1 }
 }
 
 // The record of a family that begins at `at`.
@@ -120,5 +115,63 @@ pub fn sample(s: &[u8]) -> Tally
         whole: head & t.whole,
         cases: t.cases,
         differ: t.differ,
+    }
+}
+
+fn say(text: &[u8]) {
+    io::write_all(STDOUT_FILENO, text);
+}
+
+fn say_count(n: usize, what: &[u8]) {
+    say(b" ");
+    io::print_decimal(STDOUT_FILENO, n as u64);
+    say(what);
+}
+
+// One line: a whole sample's family and counts.
+fn say_tally(family: u8, t: Tally) {
+    if !t.whole {
+        say(b"no whole sample\n");
+        return;
+    }
+    if family == CURVES {
+        say(b"curves");
+    }
+    say_count(t.cases, b" cases");
+    say_count(t.differ, b" differ\n");
+}
+
+// The sample in a file that argument i names; what cannot be read whole is told.
+fn replay_file(i: usize) {
+    let mut path = io::buffer();
+    let n = os::arg(i, &mut path);
+    say(&path[..n]);
+    say(b": ");
+    let fd = os::open_read(&path[..n]);
+    if fd < 0 {
+        say(b"cannot be opened\n");
+        return;
+    }
+    let mut bytes = [0u8; 65537];
+    let got = io::read_full(fd, &mut bytes);
+    libc::close(fd);
+    if got > LONGEST {
+        say(b"too long\n");
+        return;
+    }
+    if got < HEAD {
+        say(b"no whole sample\n");
+        return;
+    }
+    say_tally(bytes[0], sample(&bytes[..got]));
+}
+
+// The whole program: a line for each argument.
+pub fn all() {
+    let end = os::arg_count();
+    let mut i = 1;
+    while i < end {
+        replay_file(i);
+        i += 1;
     }
 }

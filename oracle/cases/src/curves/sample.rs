@@ -1,6 +1,6 @@
 //! Curves in a sample: kind, how many keys, how many frames (u8 each), zero u8;
-//! for each key frame, value, slope; for each frame that it is asked at the
-//! frame, the value's bits (u32) and the whole value (u16).
+//! for each key frame, value and slope; the frames that it is asked at; and for
+//! each of these the value's bits (u32) and the whole value (u16).
 
 use super::{Answer, Keys, answer, some};
 use crate::random::Random;
@@ -22,12 +22,14 @@ pub fn stored(extent: Extent, told: impl Fn(u32, Answer) -> Answer) -> Vec<u8> {
     for _ in 0..extent.curves {
         let keys = some::keys(&mut random);
         put_keys(&mut sample, &keys);
+        let frames: Vec<f32> = (0..FRAMES)
+            .map(|_| some::frame(&mut random, &keys))
+            .collect();
+        frames.iter().for_each(|&frame| sample.f32(frame));
         let curve = keys.curve();
-        for _ in 0..FRAMES {
-            let frame = some::frame(&mut random, &keys);
+        for frame in frames {
             let number = sample.case();
             let answer = told(number, answer(&curve, frame));
-            sample.f32(frame);
             sample.u32(answer.value);
             sample.u16(answer.whole as u16);
         }
