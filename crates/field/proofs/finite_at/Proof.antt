@@ -1,0 +1,15 @@
+use mathlib.Core.Path.{sym, _∙_, ap}
+use Rattle.field.specs.Read.{finiteAt, floatAt, finite-pattern, finitePattern}
+use borrow.Author.Needs.{needs}
+use Rattle.field.proofs.finite_at.Statement.{statement}
+use Rattle.field.proofs.finite_at.Tie as tie
+
+u32-at-requires : tie.Need-u32-at-requires
+u32-at-requires c κs = search needs
+
+returns : tie.Need-returns
+unfolding finiteAt floatAt
+returns c = ap finitePattern (c .u32-at .ensures) ∙ sym (finite-pattern _)
+
+pub finite-at-spec : {M : Type 1} → statement M
+finite-at-spec = tie.close (tie.spec u32-at-requires returns)

@@ -1,0 +1,4 @@
+-- What fields of a list of bytes hold: numbers, and names of 24 bytes.
+pub mod Read
+pub mod Name
+pub mod Word
