@@ -8,6 +8,7 @@ use Rattle.field.proofs.f32_at.Tie as tie
 u32-at-requires : tie.Need-u32-at-requires
 u32-at-requires c κs = search needs
 
+-- a finite pattern is no NaN's
 float-from-bits-result : tie.Need-float-from-bits-result
 unfolding finiteAt floatAt
 float-from-bits-result c = rw (c .u32-at .ensures) (finite-no-nan _ (sym (finite-pattern _) ∙ c .before .before .pre .1))

@@ -7,6 +7,7 @@ use Rattle.field.proofs.finite_at.Tie as tie
 u32-at-requires : tie.Need-u32-at-requires
 u32-at-requires c κs = search needs
 
+-- a pattern is finite by its exponent's field
 returns : tie.Need-returns
 unfolding finiteAt floatAt
 returns c = ap finitePattern (c .u32-at .ensures) ∙ sym (finite-pattern _)
