@@ -85,3 +85,18 @@ module _ {s : List ℕ} (w : Stored s) (i : ℕ) (l : i < keyCount s) where
 
   pub stored-slope : finiteAt s (pointsAt s + 4 + i * 8) ≡ true
   stored-slope = and-2 (finiteAt s (framesAt s + i * 4) && finiteAt s (pointsAt s + i * 8)) _ all-three
+
+-- ---- what copying n f32s asks: they lie within s, and are finite
+pub record Floats (s : List ℕ) (at stride n : ℕ) : Type 0 where
+  pub within : (i : ℕ) → i < n → at + i * stride + 3 < length s
+  pub finite : (i : ℕ) → i < n → finiteAt s (at + i * stride) ≡ true
+
+module _ {s : List ℕ} (w : Stored s) where
+  pub frame-floats : Floats s (framesAt s) 4 (keyCount s)
+  frame-floats = record { within = λ i l. omega (arith, w .checked); finite = stored-frame w }
+
+  pub value-floats : Floats s (pointsAt s) 8 (keyCount s)
+  value-floats = record { within = λ i l. omega (arith, w .checked); finite = stored-value w }
+
+  pub slope-floats : Floats s (pointsAt s + 4) 8 (keyCount s)
+  slope-floats = record { within = λ i l. omega (arith, w .checked); finite = stored-slope w }
