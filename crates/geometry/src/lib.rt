@@ -1,1 +1,3 @@
+// x
 pub mod points;
+pub mod uv;
