@@ -1,5 +1,5 @@
 -- What an outward call gives: a refusal beside an answer that holds nothing, or 0 beside the answer. f puts the two together.
-use mathlib.Core.Path.{_≡_, refl, sym}
+use mathlib.Core.Path.{_≡_}
 use Prim.Native.Nat.{ℕ}
 use lib.Dec.{eqb}
 use borrow.Author.Tests.{eq-eqb, ne-eqb}

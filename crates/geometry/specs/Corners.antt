@@ -37,6 +37,7 @@ turned p c x y z =
     let y3 = y1 ⊗ x .cos ⊖ z2 ⊗ x .sin in
     record { x = c .x ⊕ x2; y = c .y ⊕ y3 }
 
+-- the first where the test holds, else the second
 abbrev pub pick : Bool → Vector2f → Vector2f → Vector2f
 pick true a b = a
 pick false a b = b

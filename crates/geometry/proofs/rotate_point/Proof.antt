@@ -1,4 +1,5 @@
 -- A refusal beside +0, or 0 beside the answer.
+use mathlib.Core.Path.{refl}
 use Rattle.geometry.specs.Calls.{turned, turnedOf}
 use Rattle.geometry.proofs.Answers.{declined, accepted}
 use borrow.Author.Needs.{needs}
@@ -8,12 +9,9 @@ use Rattle.geometry.proofs.rotate_point.Tie as tie
 rotate-refusal-requires : tie.Need-rotate-refusal-requires
 rotate-refusal-requires c κs = search needs
 
-no-point-requires : tie.Need-no-point-requires
-no-point-requires c κs = search needs
-
 returns : tie.Need-returns
 unfolding turnedOf
-returns c = declined turned _ _ _ _ _ (c .before .before .rotate-refusal .ensures) (c .before .if1 .taken) (c .no-point .ensures)
+returns c = declined turned _ _ _ _ _ (c .before .rotate-refusal .ensures) (c .if1 .taken) refl
 
 rotate-point-requires : tie.Need-rotate-point-requires
 rotate-point-requires c κs = search needs
@@ -25,4 +23,4 @@ returns-2 c = accepted turned _ _ _ _ _ (c .before .before .rotate-refusal .ensu
 pub rotate-point-spec : {M : Type 1} → statement M
 rotate-point-spec =
     tie.close
-    (tie.spec rotate-refusal-requires no-point-requires returns rotate-point-requires returns-2)
+    (tie.spec rotate-refusal-requires returns rotate-point-requires returns-2)
