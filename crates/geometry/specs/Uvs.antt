@@ -55,6 +55,7 @@ abbrev pub baseUvs : List Float → Block
 baseUvs ls = table 4 (cornerUvs ls)
 
 -- ---- SRTs, five numbers each: translate u, v, rotate, scale u, v
+-- SRT l is given
 abbrev pub hasSrt : List Float → ℕ → Bool
 hasSrt ss l = leb (l * 5 + 5) (length ss)
 
