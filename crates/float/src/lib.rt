@@ -16,6 +16,9 @@ ghost use Rattle.float.specs.Clamp.{clampOf, maxOf};
 ghost use Rattle.float.specs.Whole.{wholeOf};
 ghost use Rattle.float.specs.StepValue.{wholeIn16, stepValue};
 
+// 2^23: from here on every f32 is whole.
+const WHOLE: f32 = 8388608.0;
+
 // The largest value of a u16, as a float.
 const LAST_U16: f32 = 65535.0;
 
@@ -144,10 +147,13 @@ pub fn remainder(x: f32, y: f32) -> f32
 }
 
 // x is a value that a Step key may hold: a whole number in 0..65,535, and not -0.
+// Below 1 only +0 is one. From 1 on a value below 65,536 is whole where it comes back from adding 2^23 and taking it off again: the sum has no
+// digit below the point. Every key's value is tested in each call, so there is no cut and no branch here.
 pub fn is_whole16(x: f32) -> bool
     ensures { λ r. ⌜ r ≡ wholeIn16 x ⌝ }
 {
-    same_bits(x, cut_u16(x) as f32)
+    let y = (x + WHOLE) - WHOLE;
+    same_bits(x, 0.0) | (!(x < 1.0) & (x < 65536.0) & same_bits(x, y))
 }
 
 // The value that a Step key takes where x is asked for.
