@@ -25,10 +25,10 @@ fn good_ones_are_read_back() {
         let book = books::book(&mut random, size);
         assert_eq!(Book::read(&book.write()), Some(book.clone()));
         let size = good::size(&mut random);
-        let sheet = good::sheet(&mut random, size, &books::names_of(&book));
+        let sheet = good::sheet(&mut random, size, &book);
         assert_eq!(Sheet::read(&sheet.write()), Some(sheet.clone()));
         assert_eq!(loading_refusal(&sheet.write()), 0);
     }
-    let full = good::sheet(&mut random, good::FULL, &[]);
+    let full = good::sheet(&mut random, good::FULL, &Book::default());
     assert_eq!(full.write().len(), LONGEST);
 }

@@ -9,7 +9,7 @@ pub fn case(random: &mut Random) -> Case {
     let size = books::size(random);
     let book = books::book(random, size);
     let size = good::size(random);
-    let sheet = good::sheet(random, size, &books::names_of(&book));
+    let sheet = good::sheet(random, size, &book);
     let active = active(random, &sheet);
     Case {
         sheet,

@@ -41,13 +41,6 @@ pub fn book(random: &mut Random, size: Size) -> Book {
     }
 }
 
-/// The names that a sheet's contents can reach.
-pub fn names_of(book: &Book) -> Vec<Name> {
-    let labels = book.panes.iter().map(|pane| pane.label);
-    let names = book.materials.iter().map(|material| material.name);
-    labels.chain(names).collect()
-}
-
 fn pane(random: &mut Random, row: usize, label: Name) -> Pane {
     let parent = if row == 0 || random.once_in(4) {
         NO_PARENT

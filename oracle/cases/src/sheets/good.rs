@@ -2,6 +2,7 @@
 
 use crate::curves::{self, CONSTANT, HERMITE, STEP};
 use crate::format::Name;
+use crate::format::book::Book;
 use crate::format::sheet::{self, Animation, Content, Sheet, Target};
 use crate::random::Random;
 
@@ -66,20 +67,30 @@ pub fn size(random: &mut Random) -> Size {
     }
 }
 
-/// A sheet of that size, whose contents have names of `known` or other ones.
-pub fn sheet(random: &mut Random, size: Size, known: &[Name]) -> Sheet {
+/// A sheet of that size, whose contents have names of the book or other ones.
+pub fn sheet(random: &mut Random, size: Size, book: &Book) -> Sheet {
+    let labels: Vec<Name> = book.panes.iter().map(|pane| pane.label).collect();
+    let names: Vec<Name> = book
+        .materials
+        .iter()
+        .map(|material| material.name)
+        .collect();
     let mut sheet = Sheet {
         animations: (0..size.animations).map(|_| animation(random)).collect(),
         textures: (0..size.textures)
-            .map(|_| any_name(random, known))
+            .map(|_| any_name(random, &names))
             .collect(),
         ..Sheet::default()
     };
     for number in rising(random, size.contents, size.animations) {
+        let kind = random.pick(&[0, 0, 1, 1, 2, 3, 4]);
+        let fitting = if kind == 1 { &names } else { &labels };
+        let any = random.pick(&[&labels, &names]);
+        let from = random.pick(&[fitting, fitting, fitting, any]);
         sheet.contents.push(Content {
             animation: number as u8,
-            kind: random.pick(&[0, 0, 1, 1, 2, 3, 4]),
-            name: any_name(random, known),
+            kind,
+            name: any_name(random, from),
             ..Content::default()
         });
     }
@@ -108,12 +119,12 @@ fn animation(random: &mut Random) -> Animation {
     }
 }
 
-/// A known name, now and then an empty one or one with a byte changed.
-fn any_name(random: &mut Random, known: &[Name]) -> Name {
-    if known.is_empty() || random.once_in(16) {
+/// One of the names, now and then an empty one or one with a byte changed.
+fn any_name(random: &mut Random, names: &[Name]) -> Name {
+    if names.is_empty() || random.once_in(16) {
         return [0; 24];
     }
-    let mut name = random.pick(known);
+    let mut name = random.pick(names);
     if random.once_in(8) {
         name[23] = b'?';
     }
@@ -134,7 +145,7 @@ fn push_target(random: &mut Random, sheet: &mut Sheet, content: u16, count: usiz
     sheet.targets.push(Target {
         content,
         layer: random.pick(&[0, 1, 2, 3, 255]),
-        raw: raw(random),
+        raw: raw(random, &code),
         code,
         curve,
         first_key: sheet.frames.len() as u16,
@@ -158,12 +169,21 @@ fn code(random: &mut Random, kind: u8) -> [u8; 4] {
     }
 }
 
-/// Raw numbers of few channels, so that targets repeat, and of all.
-fn raw(random: &mut Random) -> u8 {
-    match random.below(3) {
-        0 => random.below(3) as u8,
-        1 => random.below(32) as u8,
-        _ => random.below(256) as u8,
+/// Most often a raw number that targets.rs lists for the code. Few of these, so
+/// that targets repeat.
+fn raw(random: &mut Random, code: &[u8; 4]) -> u8 {
+    let listed = match code {
+        b"FLPA" => 10,
+        b"FLVC" => 17,
+        b"FLTS" => 5,
+        b"FLIM" => 3,
+        b"FLMC" => 28,
+        _ => 1,
+    };
+    match random.below(4) {
+        0 => random.below(listed.min(3)) as u8,
+        1 => random.below(256) as u8,
+        _ => random.below(listed + 1) as u8,
     }
 }
 
