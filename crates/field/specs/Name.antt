@@ -9,14 +9,11 @@ use Rattle.laws.specs.First.{firstBelow}
 use Rattle.laws.specs.declared.Found.{Found}
 use Rattle.field.specs.Read.{byteAt}
 
--- how many bytes a name's field has
-abbrev pub nameSize : ℕ
-nameSize = 24
-
 -- the name's field at i
 abbrev pub nameAt : List ℕ → ℕ → List ℕ
 nameAt s i = take 24 (drop i s)
 
+-- the k-th bytes of the two fields are the same
 unfoldable pub sameByte : List ℕ → ℕ → List ℕ → ℕ → ℕ → Bool
 sameByte s i t j k = eqb (byteAt s (i + k)) (byteAt t (j + k))
 
@@ -24,6 +21,7 @@ sameByte s i t j k = eqb (byteAt s (i + k)) (byteAt t (j + k))
 unfoldable pub sameName : List ℕ → ℕ → List ℕ → ℕ → Bool
 sameName s i t j = allBelow 24 (sameByte s i t j)
 
+-- the k-th byte of the field is zero
 unfoldable pub zeroByte : List ℕ → ℕ → ℕ → Bool
 zeroByte s i k = eqb (byteAt s (i + k)) 0
 
@@ -39,10 +37,11 @@ rowNamed s base stride t j i = sameName s (base + i * stride) t j
 unfoldable pub findName : List ℕ → ℕ → ℕ → ℕ → List ℕ → ℕ → Found
 findName s base stride rows t j = firstBelow rows (rowNamed s base stride t j)
 
--- row i has a name, and no earlier row has the same
+-- row j has another name than row i
 unfoldable pub otherName : List ℕ → ℕ → ℕ → ℕ → ℕ → Bool
 otherName s base stride i j = not (sameName s (base + j * stride) s (base + i * stride))
 
+-- row i has a name, and no earlier row has the same
 unfoldable pub nameOk : List ℕ → ℕ → ℕ → ℕ → Bool
 nameOk s base stride i = not (emptyName s (base + i * stride)) && allBelow i (otherName s base stride i)
 

@@ -1,13 +1,12 @@
 -- The numbers that a list of bytes holds (document 01, its head: little-endian, and f32 is binary32). Assumes nothing.
-use Prim.Native.Nat.{ℕ, zero, suc, _+_, _*_, _%_, _/_}
+use Prim.Native.Nat.{ℕ, _+_, _*_, _<_, _≤_}
 use mathlib.Core.List.{List}
-use mathlib.Core.Bool.{Bool, true, false, not, cond}
-use mathlib.Core.Path.{_≡_, refl, sym, _∙_}
-use borrow.Author.Tests.{not-true}
-use lib.Dec.{eqb, leb, T}
-use lib.Ieee.{Float, inf, nan, binary32, ofBits, ofFields, odd, nanBits, top, hid}
+use mathlib.Core.Bool.{Bool, true}
+use mathlib.Core.Path.{_≡_}
+use native.Mathlib.Omega.{arith}
+use lib.Ieee.{Float}
 use lib.ListN.{getD}
-use Rattle.laws.specs.Below.{allBelow}
+use Rattle.laws.specs.Below.{allBelow, all-at}
 use Rattle.float.specs.Numbers.{#, finite}
 
 -- the byte at i, 0 past the end
@@ -38,30 +37,14 @@ finiteIn s i k = finiteAt s (i + k * 4)
 unfoldable pub finiteRow : List ℕ → ℕ → ℕ → Bool
 finiteRow s i n = allBelow n (finiteIn s i)
 
--- A pattern stands for a finite value exactly when its exponent's field is not all ones.
-abbrev pub finitePattern : ℕ → Bool
-finitePattern n = not (eqb (n % 2147483648 / 8388608) 255)
+-- What that tells, for a caller that reads them: the k-th, at j, is finite.
+pub record FiniteFrom (s : List ℕ) (i n : ℕ) : Type 0 where
+  pub each : (k j : ℕ) → k < n → j ≡ i + k * 4 → finiteAt s j ≡ true
 
-odd-finite : (d : ℕ) (s : Bool) (q k l : ℕ) → finite (odd d s q k l) ≡ true
-unfolding odd
-odd-finite d s zero k l = refl
-odd-finite d s (suc q) k l = refl
+pub finite-from : (s : List ℕ) (i n : ℕ) → finiteRow s i n ≡ true → FiniteFrom s i n
+unfolding finiteRow finiteIn
+finite-from s i n h = record { each = λ k j l e. rw e (all-at n (finiteIn s i) k h l) }
 
-fields-finite : (s : Bool) (x t : ℕ) → finite (ofFields binary32 s x t) ≡ not (eqb x 255)
-unfolding ofFields
-fields-finite s zero t = odd-finite 24 s t 0 149
-fields-finite s (suc x) t = go (eqb (suc x) 255) (eqb t 0)
-  where
-    go : (b c : Bool) → finite (cond b (cond c (inf s) nan) (odd 24 s (8388608 + t) x 149)) ≡ not b
-    go true true = refl
-    go true false = refl
-    go false c = odd-finite 24 s (8388608 + t) x 149
-
-pub finite-pattern : (n : ℕ) → finite (# n) ≡ finitePattern n
-unfolding ofBits
-finite-pattern n = fields-finite (leb (top binary32) n) (n % top binary32 / hid binary32) (n % hid binary32)
-
--- so such a pattern is no NaN's
-pub finite-no-nan : (n : ℕ) → finitePattern n ≡ true → T (not (nanBits binary32 n))
-unfolding nanBits
-finite-no-nan n e = rw (not-true (eqb (n % 2147483648 / 8388608) 255) e) tt
+-- and so is a part of them, m from the k-th on, which is at j
+pub finite-part : {s : List ℕ} {i n : ℕ} → FiniteFrom s i n → (k m j : ℕ) → j ≡ i + k * 4 → k + m ≤ n → FiniteFrom s j m
+finite-part w k m j e l = record { each = λ d a b q. w .each (k + d) a (omega arith) (omega arith) }

@@ -35,15 +35,15 @@ digit-pair m a b c d p q = go (eqb a b) refl (eqb c d) refl
     go false e y f = ne-eqb _ _ (λ h. eqb-false a b e (ones h))
 
 -- s holds bytes
-pub Bytes : List ℕ → Type 0
+abbrev pub Bytes : List ℕ → Type 0
 Bytes s = (k : ℕ) → byteAt s k < 256
 
-module _ (s t : List ℕ) (b : (k : ℕ) → byteAt s k < 256) (d : (k : ℕ) → byteAt t k < 256) where
+module _ (s t : List ℕ) (b : Bytes s) (d : Bytes t) where
   same-16 : (i j : ℕ) → eqb (u16At s i) (u16At t j) ≡ (eqb (byteAt s i) (byteAt t j) && eqb (byteAt s (i + 1)) (byteAt t (j + 1)))
   unfolding u16At
   same-16 i j = digit-pair 256 (byteAt s i) (byteAt t j) (byteAt s (i + 1)) (byteAt t (j + 1)) (b i) (d j)
 
-  small-16 : (l : List ℕ) → ((k : ℕ) → byteAt l k < 256) → (i : ℕ) → u16At l i < 65536
+  small-16 : (l : List ℕ) → Bytes l → (i : ℕ) → u16At l i < 65536
   unfolding u16At
   small-16 l h i = omega (arith, h i, h (i + 1))
 
@@ -51,7 +51,7 @@ module _ (s t : List ℕ) (b : (k : ℕ) → byteAt s k < 256) (d : (k : ℕ) �
   unfolding u32At
   same-32 i j = digit-pair 65536 (u16At s i) (u16At t j) (u16At s (i + 2)) (u16At t (j + 2)) (small-16 s b i) (small-16 t d j)
 
-  small-32 : (l : List ℕ) → ((k : ℕ) → byteAt l k < 256) → (i : ℕ) → u32At l i < 4294967296
+  small-32 : (l : List ℕ) → Bytes l → (i : ℕ) → u32At l i < 4294967296
   unfolding u32At
   small-32 l h i = omega (arith, small-16 l h i, small-16 l h (i + 2))
 

@@ -26,6 +26,7 @@ rows-holds c = missed-none _ _
 add-next : tie.Need-add-next Inv-bytes μ-bytes Inv-rows μ-rows
 add-next c = omega arith
 
+-- the field of row i lies within the table
 mul-place : tie.Need-mul-place Inv-bytes μ-bytes Inv-rows μ-rows
 mul-place c = let b = c .before in omega (arith, b .before .pre .0 .within (b .rows .next) (omega arith))
 
@@ -50,6 +51,7 @@ shared-slice-read-if1-2 c = omega arith
 rows-less : tie.Need-rows-less Inv-bytes μ-bytes Inv-rows μ-rows
 rows-less c = omega arith
 
+-- a byte differs, so the row has another name
 rows-again : tie.Need-rows-again Inv-bytes μ-bytes Inv-rows μ-rows
 unfolding rowNamed sameName sameByte
 rows-again c = let b = c .before .before .before .before in missed-more (b .before .before .rows .inv) (omega arith) (sym (passed-not (b .bytes .inv) (omega arith) (ne-eqb _ _ (c .if1 .taken))))
@@ -60,14 +62,17 @@ add-k c = omega arith
 bytes-less : tie.Need-bytes-less Inv-bytes μ-bytes Inv-rows μ-rows
 bytes-less c = omega arith
 
+-- the k-th bytes are the same
 bytes-again : tie.Need-bytes-again Inv-bytes μ-bytes Inv-rows μ-rows
 unfolding sameByte
 bytes-again c = passed-more (c .before .before .before .before .bytes .inv) (omega arith) (eq-eqb _ _ (c .if1 .left))
 
+-- all 24 bytes are the same, and no earlier row had the name
 returns : tie.Need-returns Inv-bytes μ-bytes Inv-rows μ-rows
 unfolding findName rowNamed sameName
 returns c = missed-at (c .before .before .before .rows .inv) (omega arith) (sym (passed-all (c .before .bytes .inv) (omega arith)))
 
+-- no row had the name
 returns-2 : tie.Need-returns-2 Inv-bytes μ-bytes Inv-rows μ-rows
 unfolding findName
 returns-2 c = missed-all (c .before .rows .inv) (omega arith)

@@ -1,5 +1,9 @@
 use mathlib.Core.Path.{sym, _∙_, ap}
-use Rattle.field.specs.Read.{finiteAt, floatAt, finite-pattern, finitePattern}
+use mathlib.Core.Bool.{not}
+use lib.Dec.{eqb}
+use Rattle.float.specs.Bits.{exponent, finite-bits}
+use Rattle.field.specs.Read.{finiteAt, floatAt}
+use Prim.Native.Nat.{ℕ}
 use borrow.Author.Needs.{needs}
 use Rattle.field.proofs.finite_at.Statement.{statement}
 use Rattle.field.proofs.finite_at.Tie as tie
@@ -7,9 +11,10 @@ use Rattle.field.proofs.finite_at.Tie as tie
 u32-at-requires : tie.Need-u32-at-requires
 u32-at-requires c κs = search needs
 
+-- a pattern is finite by its exponent's field
 returns : tie.Need-returns
 unfolding finiteAt floatAt
-returns c = ap finitePattern (c .u32-at .ensures) ∙ sym (finite-pattern _)
+returns c = ap (λ (n : ℕ). not (eqb (exponent n) 255)) (c .u32-at .ensures) ∙ sym (finite-bits _)
 
 pub finite-at-spec : {M : Type 1} → statement M
 finite-at-spec = tie.close (tie.spec u32-at-requires returns)

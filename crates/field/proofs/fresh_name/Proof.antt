@@ -13,6 +13,7 @@ Inv-loop s base stride i place j₀ j = Passed i (otherName s base stride i) j
 abbrev μ-loop : tie.MeasureT-loop
 μ-loop s base stride i place j₀ j = i - j
 
+-- the field of row i lies within s
 mul-place : tie.Need-mul-place Inv-loop μ-loop
 mul-place c = let b = c .before in omega (arith, b .pre .within (b .args .i) (omega arith))
 
@@ -22,6 +23,7 @@ add-place c = let b = c .before in omega (arith, b .pre .within (b .args .i) (om
 loop-holds : tie.Need-loop-holds Inv-loop μ-loop
 loop-holds c = passed-none _ _
 
+-- and so does that of row j
 mul-same-name : tie.Need-mul-same-name Inv-loop μ-loop
 mul-same-name c = let b = c .before in omega (arith, b .before .before .pre .within (b .loop .j) (omega arith))
 
@@ -31,6 +33,7 @@ add-same-name c = let b = c .before in omega (arith, b .before .before .pre .wit
 same-name-requires : tie.Need-same-name-requires Inv-loop μ-loop
 same-name-requires c κs = let b = c .before in let a = b .before .before in omega (arith, a .pre .within (b .loop .j) (omega arith), a .pre .within (a .args .i) (omega arith))
 
+-- row j has the same name
 returns : tie.Need-returns Inv-loop μ-loop
 unfolding otherName
 returns c = let b = c .before in passed-not (b .before .before .loop .inv) (omega arith) (ap not (sym (b .same-name .ensures) ∙ c .if1 .taken))
@@ -41,6 +44,7 @@ add-j c = omega arith
 loop-less : tie.Need-loop-less Inv-loop μ-loop
 loop-less c = omega arith
 
+-- row j has another name
 loop-again : tie.Need-loop-again Inv-loop μ-loop
 unfolding otherName
 loop-again c = let b = c .before in passed-more (b .before .before .loop .inv) (omega arith) (ap not (sym (b .same-name .ensures) ∙ c .if1 .left))

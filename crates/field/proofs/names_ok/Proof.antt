@@ -14,6 +14,7 @@ abbrev μ-loop : tie.MeasureT-loop
 loop-holds : tie.Need-loop-holds Inv-loop μ-loop
 loop-holds c = passed-none _ _
 
+-- the rows up to i are rows of the table
 name-ok-requires : tie.Need-name-ok-requires Inv-loop μ-loop
 name-ok-requires c κs = record { within = λ k l. c .before .before .before .pre .within k (omega arith) }
 

@@ -23,6 +23,7 @@ word-at-requires c κs = search needs
 word-at-requires-2 : tie.Need-word-at-requires-2
 word-at-requires-2 c κs = search needs
 
+-- the first words differ
 returns : tie.Need-returns
 returns c = let b = c .before in rw (by-words (b .before .before), ← b .before .word-at .ensures, ← b .word-at2 .ensures, ne-eqb _ _ (c .if1 .taken))
 
@@ -38,6 +39,7 @@ add-word-at-2 c = search needs
 word-at-requires-4 : tie.Need-word-at-requires-4
 word-at-requires-4 c κs = search needs
 
+-- the second words differ
 returns-2 : tie.Need-returns-2
 returns-2 c = let a = c .before in let b = a .before .before .before in rw (by-words (b .before .before), ← b .before .word-at .ensures, ← b .word-at2 .ensures, eq-eqb _ _ (a .before .before .if1 .left), ← a .before .word-at3 .ensures, ← a .word-at4 .ensures, ne-eqb _ _ (c .if2 .taken))
 
@@ -53,6 +55,7 @@ add-word-at-4 c = search needs
 word-at-requires-6 : tie.Need-word-at-requires-6
 word-at-requires-6 c κs = search needs
 
+-- the first two are the same
 returns-3 : tie.Need-returns-3
 returns-3 c = let d = c .before .before in let a = d .before in let b = a .before .before .before in rw (by-words (b .before .before), ← b .before .word-at .ensures, ← b .word-at2 .ensures, eq-eqb _ _ (a .before .before .if1 .left), ← a .before .word-at3 .ensures, ← a .word-at4 .ensures, eq-eqb _ _ (d .if2 .left)) (cc)
 
