@@ -1,0 +1,74 @@
+-- Document 01, "UVs and corners": the corners of a pane, as `Corners` of pane_tree.rs, in its order of operations. Definitions only.
+use Prim.Native.Nat.{ℕ}
+use mathlib.Core.Bool.{Bool, true, false, cond, _&&_}
+use lib.Dec.{eqb}
+use lib.Ieee.{Float, eq, neg}
+use Rattle.float.specs.Numbers.{#, _⊕_, _⊖_, _⊗_, zero'}
+use Rattle.float.specs.Turn.{radiansOf}
+use Rattle.float.specs.SinCos.{sinCosOf}
+use Rattle.float.specs.declared.turn.SinCos.{SinCos}
+use Rattle.geometry.specs.declared.points.Vector2f.{Vector2f}
+use Rattle.geometry.specs.declared.points.Vector3f.{Vector3f}
+use Rattle.geometry.specs.declared.points.Corners.{Corners}
+
+-- 0.5
+abbrev pub half : Float
+half = # 0x3f00_0000
+
+-- Vector2f addition, by component
+abbrev pub sum : Vector2f → Vector2f → Vector2f
+sum a b = record { x = a .x ⊕ b .x; y = a .y ⊕ b .y }
+
+-- all-zero rotation: each component is +0 or -0
+abbrev pub still : Vector3f → Bool
+still r = eq (r .x) zero' && eq (r .y) zero' && eq (r .z) zero'
+
+-- sine and cosine of minus an angle in degrees
+abbrev pub turnBack : Float → SinCos
+turnBack degrees = sinCosOf (neg (radiansOf degrees))
+
+-- the point (its z is 0) turned about z, then y, then x, with these sines and cosines, and put about the centre
+abbrev pub turned : Vector2f → Vector2f → SinCos → SinCos → SinCos → Vector2f
+turned p c x y z =
+    let x1 = p .x ⊗ z .cos ⊖ p .y ⊗ z .sin in
+    let y1 = p .x ⊗ z .sin ⊕ p .y ⊗ z .cos in
+    let x2 = x1 ⊗ y .cos ⊕ zero' ⊗ y .sin in
+    let z2 = neg x1 ⊗ y .sin ⊕ zero' ⊗ y .cos in
+    let y3 = y1 ⊗ x .cos ⊖ z2 ⊗ x .sin in
+    record { x = c .x ⊕ x2; y = c .y ⊕ y3 }
+
+abbrev pub pick : Bool → Vector2f → Vector2f → Vector2f
+pick true a b = a
+pick false a b = b
+
+-- `rotate_point`: all-zero rotation gives centre + point
+unfoldable pub rotated : Vector2f → Vector2f → Vector3f → Vector2f
+rotated p c r = pick (still r) (sum c p) (turned p c (turnBack (r .x)) (turnBack (r .y)) (turnBack (r .z)))
+
+-- where a pane of this size starts, counted from its pivot: origin 0 is Center, 1 Left or Top, 2 Right or Bottom
+unfoldable pub startOf : Float → ℕ → Float
+startOf size origin = cond (eqb origin 0) (neg size ⊗ half) (cond (eqb origin 1) zero' (neg size))
+
+-- `Corners::compute`
+unfoldable pub cornersOf : Vector2f → Vector2f → ℕ → ℕ → Vector3f → Corners
+cornersOf c size ox oy r =
+    let lx = startOf (size .x) ox in
+    let ly = startOf (size .y) oy in
+    let rx = lx ⊕ size .x in
+    let by = ly ⊕ size .y in
+    record {
+      topleft = rotated (record { x = lx; y = ly }) c r;
+      topright = rotated (record { x = rx; y = ly }) c r;
+      bottomleft = rotated (record { x = lx; y = by }) c r;
+      bottomright = rotated (record { x = rx; y = by }) c r;
+    }
+
+-- `translate`
+abbrev pub translated : Corners → Vector2f → Corners
+translated k d =
+    record {
+      topleft = sum (k .topleft) d;
+      topright = sum (k .topright) d;
+      bottomleft = sum (k .bottomleft) d;
+      bottomright = sum (k .bottomright) d;
+    }

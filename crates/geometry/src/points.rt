@@ -1,0 +1,131 @@
+// Vectors, and the four corners of a pane (document 01, "UVs and corners"; Corners of pane_tree.rs).
+use float::SinCos;
+ghost use mathlib.Core.Path.{_≡_};
+ghost use Rattle.geometry.specs.Corners.{sum, still, turnBack, turned, rotated, startOf, cornersOf, translated};
+
+#[repr(C)]
+pub struct Vector2f {
+    pub x: f32,
+    pub y: f32,
+}
+
+#[repr(C)]
+pub struct Vector3f {
+    pub x: f32,
+    pub y: f32,
+    pub z: f32,
+}
+
+#[repr(C)]
+pub struct Corners {
+    pub topleft: Vector2f,
+    pub topright: Vector2f,
+    pub bottomleft: Vector2f,
+    pub bottomright: Vector2f,
+}
+
+// Vector2f's addition, by component.
+pub fn add(a: Vector2f, b: Vector2f) -> Vector2f
+    ensures { λ r. ⌜ r ≡ sum a b ⌝ }
+{
+    Vector2f {
+        x: a.x + b.x,
+        y: a.y + b.y,
+    }
+}
+
+// Every component is zero, +0 or -0.
+fn is_still(r: Vector3f) -> bool
+    ensures { λ b. ⌜ b ≡ still r ⌝ }
+{
+    (r.x == 0.0) & (r.y == 0.0) & (r.z == 0.0)
+}
+
+// Sine and cosine of an angle in degrees, turned the other way.
+fn turn_back(degrees: f32) -> SinCos
+    ensures { λ r. ⌜ r ≡ turnBack degrees ⌝ }
+{
+    float::sin_cos(-float::radians(degrees))
+}
+
+// A point of the plane about the centre, turned about z, then y, then x. Its own z is 0.
+fn turn(point: Vector2f, center: Vector2f, x: SinCos, y: SinCos, z: SinCos) -> Vector2f
+    ensures { λ r. ⌜ r ≡ turned point center x y z ⌝ }
+{
+    let x1 = point.x * z.cos - point.y * z.sin;
+    let y1 = point.x * z.sin + point.y * z.cos;
+    let x2 = x1 * y.cos + 0.0 * y.sin;
+    let z2 = -x1 * y.sin + 0.0 * y.cos;
+    let y3 = y1 * x.cos - z2 * x.sin;
+    Vector2f {
+        x: center.x + x2,
+        y: center.y + y3,
+    }
+}
+
+// Where a pane of this size starts, counted from its pivot: origin 0 is the centre, 1 left or top, 2 right or bottom.
+fn start(size: f32, origin: u8) -> f32
+    ensures { λ r. ⌜ r ≡ startOf size origin ⌝ }
+{
+    match origin {
+        0 => -size * 0.5,
+        1 => 0.0,
+        _ => -size,
+    }
+}
+
+impl Corners {
+    // A point about the centre, turned by three angles in degrees.
+    pub fn rotate_point(point: Vector2f, center: Vector2f, rotation: Vector3f) -> Vector2f
+        ensures { λ r. ⌜ r ≡ rotated point center rotation ⌝ }
+    {
+        if is_still(rotation) {
+            return add(center, point);
+        }
+        let x = turn_back(rotation.x);
+        let y = turn_back(rotation.y);
+        let z = turn_back(rotation.z);
+        turn(point, center, x, y, z)
+    }
+
+    pub fn compute(
+        center: Vector2f,
+        size: Vector2f,
+        origin_x: u8,
+        origin_y: u8,
+        rotation: Vector3f,
+    ) -> Corners
+        ensures { λ r. ⌜ r ≡ cornersOf center size «origin_x» «origin_y» rotation ⌝ }
+    {
+        let lx = start(size.x, origin_x);
+        let ly = start(size.y, origin_y);
+        let rx = lx + size.x;
+        let by = ly + size.y;
+        let tl = Corners::rotate_point(Vector2f { x: lx, y: ly }, center, rotation);
+        let tr = Corners::rotate_point(Vector2f { x: rx, y: ly }, center, rotation);
+        let bl = Corners::rotate_point(Vector2f { x: lx, y: by }, center, rotation);
+        let br = Corners::rotate_point(Vector2f { x: rx, y: by }, center, rotation);
+        Corners {
+            topleft: tl,
+            topright: tr,
+            bottomleft: bl,
+            bottomright: br,
+        }
+    }
+
+    // Every corner moved by delta.
+    pub fn translate(self, delta: Vector2f) -> Corners
+        ensures { λ r. ⌜ r ≡ translated self delta ⌝ }
+    {
+        let tl = self.topleft;
+        let tr = self.topright;
+        let bl = self.bottomleft;
+        let br = self.bottomright;
+        Corners {
+            topleft: add(tl, delta),
+            topright: add(tr, delta),
+            bottomleft: add(bl, delta),
+            bottomright: add(br, delta),
+        }
+    }
+}
