@@ -1,5 +1,4 @@
-//! Safe calls of the proved library `probe`. A slice goes as two arguments, its
-//! pointer and its length.
+//! The curve functions.
 
 mod raw {
     unsafe extern "C" {
@@ -30,7 +29,7 @@ use cases::bits::bits_of;
 use cases::curves::{Answer, Keys};
 
 /// What the proved code answers where the Rust gives `cases::curves::answer`.
-pub fn curve_answer(keys: &Keys, frame: f32) -> Answer {
+pub fn answer(keys: &Keys, frame: f32) -> Answer {
     let Keys {
         kind,
         frames,
