@@ -17,6 +17,7 @@ pub const STEP: u8 = 1;
 
 pub const HERMITE: u8 = 2;
 
+// A key, by value.
 pub struct Key {
     pub frame: f32,
     pub value: f32,
@@ -39,6 +40,7 @@ pub fn part<'a>(keys: &'a [f32], first: usize, count: usize) -> &'a [f32]
     &keys[first..end]
 }
 
+// Key i of three slices.
 pub fn key_at(frames: &[f32], values: &[f32], slopes: &[f32], i: usize) -> Key
     requires { ⌜ (i < length (now frames)) × (i < length (now values)) × (i < length (now slopes)) ⌝ }
     ensures { λ r. ⌜ r ≡ keyAt (now (frames .entry)) (now (values .entry)) (now (slopes .entry)) i ⌝ }

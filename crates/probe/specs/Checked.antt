@@ -12,16 +12,19 @@ use Rattle.float.specs.Rising.{rising}
 use Rattle.laws.specs.Tests.{both, and-2}
 use Rattle.curve.specs.Curve.{kindConstant, kindHermite, evalCurve, evalCurveStepU16, Readable}
 
--- a kind that there is, three numbers for each key, and, Constant apart, frames that never fall
+-- Constant apart, the frames never fall
 abbrev ordered : ℕ → List Float → Bool
 ordered kind fs = eqb kind kindConstant || rising fs
 
+-- a kind that there is, three numbers for each key, and keys in order
 unfoldable pub canRead : ℕ → List Float → List Float → List Float → Bool
 canRead kind fs vs ss = leb kind kindHermite && (eqb (length vs) (length fs) && (eqb (length ss) (length fs) && ordered kind fs))
 
+-- `eval_curve` behind the tests
 abbrev pub checkedCurve : ℕ → List Float → List Float → List Float → Float → Float
 checkedCurve kind fs vs ss x = cond (canRead kind fs vs ss) (evalCurve kind fs vs ss x) zero'
 
+-- `eval_curve_step_u16` behind the tests
 abbrev pub checkedCurveStepU16 : ℕ → List Float → List Float → List Float → Float → ℕ
 checkedCurveStepU16 kind fs vs ss x = cond (canRead kind fs vs ss) (evalCurveStepU16 kind fs vs ss x) 0
 

@@ -10,6 +10,7 @@ use borrow.Author.Needs.{needs}
 use Rattle.book.proofs.layout.book_ok.Statement.{statement}
 use Rattle.book.proofs.layout.book_ok.Tie as tie
 
+-- the sizes are not all there
 returns : tie.Need-returns
 unfolding bookOk
 returns c = rw (lt-leb _ _ (c .if1 .taken))
@@ -17,6 +18,7 @@ returns c = rw (lt-leb _ _ (c .if1 .taken))
 sizes-ok-requires : tie.Need-sizes-ok-requires
 sizes-ok-requires c κs = search needs
 
+-- a size is out of its range, or the length is not theirs
 returns-2 : tie.Need-returns-2
 unfolding bookOk
 returns-2 c = rw (le-leb _ _ (c .before .before .if1 .left), no (c .before .sizes-ok .ensures) (c .if2 .taken))
@@ -37,6 +39,7 @@ add-materials c = search needs
 sizes-right : (c : tie.Else2) → sizesOk (now (c .before .before .before .before .args .b)) ≡ true
 sizes-right c = yes (c .before .sizes-ok .ensures) (c .if2 .left)
 
+-- the length says where the rows end
 panes-ok-requires : tie.Need-panes-ok-requires
 panes-ok-requires c κs = omega (arith, sized _ (sizes-right (c .before .before)))
 
@@ -49,6 +52,7 @@ names-ok-requires c κs = let h = sized _ (sizes-right (c .before .before .befor
 names-ok-requires-2 : tie.Need-names-ok-requires-2
 names-ok-requires-2 c κs = let h = sized _ (sizes-right (c .before .before .before .before .before)) in record { within = λ i l. omega arith }
 
+-- what is left are the rows and the names
 returns-3 : tie.Need-returns-3
 unfolding bookOk
 returns-3 c = let d = c .before .before .before .before .before .before in rw (le-leb _ _ (d .before .before .if1 .left), sizes-right d) (cc)
