@@ -4,3 +4,4 @@ pub mod books;
 pub mod damage;
 pub mod good;
 pub mod names;
+pub mod sample;
