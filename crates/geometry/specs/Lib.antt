@@ -1,1 +1,5 @@
+-- Document 01, "UVs and corners", and the refusals of its calls.
 pub mod Corners
+pub mod Uvs
+pub mod Declined
+pub mod Calls

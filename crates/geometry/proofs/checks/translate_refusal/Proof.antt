@@ -1,0 +1,28 @@
+-- Each return is at its place in the chain of tests.
+use Rattle.laws.specs.Refusals.{refusals}
+use Rattle.geometry.specs.Declined.{translateRefusal}
+use borrow.Author.Needs.{needs}
+use Rattle.geometry.proofs.checks.translate_refusal.Statement.{statement}
+use Rattle.geometry.proofs.checks.translate_refusal.Tie as tie
+
+is-finite4-requires : tie.Need-is-finite4-requires
+is-finite4-requires c κs = search needs
+
+returns : tie.Need-returns
+unfolding translateRefusal
+returns c = search refusals
+
+is-finite2-requires : tie.Need-is-finite2-requires
+is-finite2-requires c κs = search needs
+
+returns-2 : tie.Need-returns-2
+unfolding translateRefusal
+returns-2 c = search refusals
+
+returns-3 : tie.Need-returns-3
+unfolding translateRefusal
+returns-3 c = search refusals
+
+pub translate-refusal-spec : {M : Type 1} → statement M
+translate-refusal-spec =
+    tie.close (tie.spec is-finite4-requires returns is-finite2-requires returns-2 returns-3)

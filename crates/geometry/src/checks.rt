@@ -1,0 +1,163 @@
+// What a call of this crate declines, and by which number (document 01, "What a call declines"). Nothing here changes anything.
+use crate::points::Corners;
+use crate::points::Vector2f;
+use crate::points::Vector3f;
+ghost use mathlib.Core.Path.{_≡_};
+ghost use Rattle.geometry.specs.Declined.{anglePasses, finite2, finite3, finite4, allFinite, anglesPass, rotationRefusal, uvsRefusal, cornersRefusal, translateRefusal, rotateRefusal};
+
+// The numbers of the table.
+const NO_SUCH_ORIGIN: u8 = 7;
+
+const BAD_ARGUMENT: u8 = 8;
+
+const ANGLE_TOO_LARGE: u8 = 12;
+
+const WRONG_LENGTH: u8 = 13;
+
+// At most 3,600 degrees in size.
+fn angle_passes(degrees: f32) -> bool
+    ensures { λ r. ⌜ r ≡ anglePasses degrees ⌝ }
+{
+    (-3600.0 <= degrees) & (degrees <= 3600.0)
+}
+
+fn is_finite2(v: Vector2f) -> bool
+    ensures { λ r. ⌜ r ≡ finite2 v ⌝ }
+{
+    float::is_finite(v.x) & float::is_finite(v.y)
+}
+
+fn is_finite3(v: Vector3f) -> bool
+    ensures { λ r. ⌜ r ≡ finite3 v ⌝ }
+{
+    float::is_finite(v.x) & float::is_finite(v.y) & float::is_finite(v.z)
+}
+
+fn is_finite4(c: Corners) -> bool
+    ensures { λ r. ⌜ r ≡ finite4 c ⌝ }
+{
+    let tl = c.topleft;
+    let tr = c.topright;
+    let bl = c.bottomleft;
+    let br = c.bottomright;
+    is_finite2(tl) & is_finite2(tr) & is_finite2(bl) & is_finite2(br)
+}
+
+// Every number of the list is finite.
+fn all_finite(s: &[f32]) -> bool
+    ensures { λ r. ⌜ r ≡ allFinite (now (s .entry)) ⌝ }
+{
+    let mut i = 0;
+    while i < s.len() {
+        if !float::is_finite(s[i]) {
+            return false;
+        }
+        i += 1;
+    }
+    true
+}
+
+// The angle of every SRT of the list passes.
+fn angles_pass(srts: &[f32]) -> bool
+    ensures { λ r. ⌜ r ≡ anglesPass (now (srts .entry)) ⌝ }
+{
+    let n = srts.len() / 5;
+    let mut i = 0;
+    while i < n {
+        if !angle_passes(srts[i * 5 + 2]) {
+            return false;
+        }
+        i += 1;
+    }
+    true
+}
+
+pub fn uvs_refusal(layers: &[f32], srts: &[f32], length: usize) -> u8
+    ensures { λ r. ⌜ r ≡ uvsRefusal (now (layers .entry)) (now (srts .entry)) length ⌝ }
+{
+    if layers.len() % 8 != 0 {
+        return BAD_ARGUMENT;
+    }
+    if srts.len() % 5 != 0 {
+        return BAD_ARGUMENT;
+    }
+    if !all_finite(layers) {
+        return BAD_ARGUMENT;
+    }
+    if !all_finite(srts) {
+        return BAD_ARGUMENT;
+    }
+    if !angles_pass(srts) {
+        return ANGLE_TOO_LARGE;
+    }
+    if length != 24 {
+        return WRONG_LENGTH;
+    }
+    0
+}
+
+fn rotation_refusal(rotation: Vector3f) -> u8
+    ensures { λ r. ⌜ r ≡ rotationRefusal rotation ⌝ }
+{
+    if !is_finite3(rotation) {
+        return BAD_ARGUMENT;
+    }
+    if !angle_passes(rotation.x) {
+        return ANGLE_TOO_LARGE;
+    }
+    if !angle_passes(rotation.y) {
+        return ANGLE_TOO_LARGE;
+    }
+    if !angle_passes(rotation.z) {
+        return ANGLE_TOO_LARGE;
+    }
+    0
+}
+
+pub fn corners_refusal(
+    center: Vector2f,
+    size: Vector2f,
+    origin_x: u8,
+    origin_y: u8,
+    rotation: Vector3f,
+) -> u8
+    ensures { λ r. ⌜ r ≡ cornersRefusal center size «origin_x» «origin_y» rotation ⌝ }
+{
+    if origin_x > 2 {
+        return NO_SUCH_ORIGIN;
+    }
+    if origin_y > 2 {
+        return NO_SUCH_ORIGIN;
+    }
+    if !is_finite2(center) {
+        return BAD_ARGUMENT;
+    }
+    if !is_finite2(size) {
+        return BAD_ARGUMENT;
+    }
+    rotation_refusal(rotation)
+}
+
+pub fn translate_refusal(corners: Corners, delta: Vector2f) -> u8
+    ensures { λ r. ⌜ r ≡ translateRefusal corners delta ⌝ }
+{
+    if !is_finite4(corners) {
+        return BAD_ARGUMENT;
+    }
+    if !is_finite2(delta) {
+        return BAD_ARGUMENT;
+    }
+    0
+}
+
+pub fn rotate_refusal(point: Vector2f, center: Vector2f, rotation: Vector3f) -> u8
+    ensures { λ r. ⌜ r ≡ rotateRefusal point center rotation ⌝ }
+{
+    if !is_finite2(point) {
+        return BAD_ARGUMENT;
+    }
+    if !is_finite2(center) {
+        return BAD_ARGUMENT;
+    }
+    rotation_refusal(rotation)
+}
