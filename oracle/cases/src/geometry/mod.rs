@@ -4,6 +4,7 @@
 //! degrees in size, 13 for an output not exactly as long; by rising number.
 
 pub mod corners;
+pub mod moves;
 pub mod sample;
 pub mod uvs;
 

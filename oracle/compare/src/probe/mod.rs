@@ -3,3 +3,4 @@
 
 pub mod curves;
 pub mod formats;
+pub mod shapes;
