@@ -1,7 +1,8 @@
-// Whether bytes are a sheet, or a book.
+// Whether bytes are a sheet, or a book, and whether keys follow the key rules.
 ghost use mathlib.Core.Path.{_≡_};
 ghost use Rattle.sheet.specs.Sheet.{sheetOk};
 ghost use Rattle.book.specs.Book.{bookOk};
+ghost use Rattle.keys.specs.Keys.{keysOk};
 
 #[no_mangle]
 pub extern "C" fn probe_sheet_ok(s: &[u8]) -> bool
@@ -15,4 +16,11 @@ pub extern "C" fn probe_book_ok(b: &[u8]) -> bool
     ensures { λ r. ⌜ r ≡ bookOk (now (b .entry)) ⌝ }
 {
     book::book_ok(b)
+}
+
+#[no_mangle]
+pub extern "C" fn probe_keys_ok(s: &[u8], frames: &[f32], values: &[f32], slopes: &[f32]) -> bool
+    ensures { λ r. ⌜ r ≡ keysOk (now (s .entry)) (now (frames .entry)) (now (values .entry)) (now (slopes .entry)) ⌝ }
+{
+    keys::keys_ok(s, frames, values, slopes)
 }

@@ -5,8 +5,8 @@ use crate::random::Random;
 use crate::sample::{CORNERS, Files, Record, UVS};
 
 /// A UV record: how many numbers the layers, the SRTs and the output have, and
-/// the refusal (u8 each); the layers, the SRTs (f32); where nothing is refused,
-/// the block's bits (u32).
+/// the refusal (u8 each); the layers, the SRTs (f32); the bits of the output
+/// after the call (u32), in which +0 stood before.
 pub fn uv_files(seed: u64, count: usize) -> Vec<Vec<u8>> {
     let mut random = Random::new(seed);
     let mut files = Files::new(UVS);
@@ -25,8 +25,9 @@ fn uv_record(case: &uvs::Case) -> Record {
     record.u8(answer.refusal);
     record.floats(&case.layers);
     record.floats(&case.srts);
-    if answer.refusal == 0 {
-        record.answers(&answer.numbers);
+    match answer.refusal {
+        0 => record.answers(&answer.numbers),
+        _ => record.answers(&vec![0; case.output]),
     }
     record.case();
     record

@@ -1,9 +1,19 @@
-//! Whether bytes are a sheet, or a book.
+//! Whether bytes are a sheet, or a book, and whether keys follow the key rules.
 
 mod raw {
     unsafe extern "C" {
         pub fn probe_sheet_ok(s: *const u8, s_len: usize) -> bool;
         pub fn probe_book_ok(b: *const u8, b_len: usize) -> bool;
+        pub fn probe_keys_ok(
+            s: *const u8,
+            s_len: usize,
+            frames: *const f32,
+            frames_len: usize,
+            values: *const f32,
+            values_len: usize,
+            slopes: *const f32,
+            slopes_len: usize,
+        ) -> bool;
     }
 }
 
@@ -13,4 +23,19 @@ pub fn sheet_ok(bytes: &[u8]) -> bool {
 
 pub fn book_ok(bytes: &[u8]) -> bool {
     unsafe { raw::probe_book_ok(bytes.as_ptr(), bytes.len()) }
+}
+
+pub fn keys_ok(sheet: &[u8], frames: &[f32], values: &[f32], slopes: &[f32]) -> bool {
+    unsafe {
+        raw::probe_keys_ok(
+            sheet.as_ptr(),
+            sheet.len(),
+            frames.as_ptr(),
+            frames.len(),
+            values.as_ptr(),
+            values.len(),
+            slopes.as_ptr(),
+            slopes.len(),
+        )
+    }
 }
