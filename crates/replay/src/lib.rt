@@ -10,6 +10,10 @@ ghost use Rattle.sample.specs.Sample.{Stepped};
 // The families, by the numbers that stand in a sample's first byte.
 const CURVES: u8 = 1;
 
+const SHEETS: u8 = 2;
+
+const BOOKS: u8 = 3;
+
 const UVS: u8 = 4;
 
 const CORNERS: u8 = 5;
@@ -34,6 +38,8 @@ fn record(family: u8, s: &[u8], at: usize) -> Step
 {
     match family {
         CURVES => sample_curves::record(s, at),
+        SHEETS => sample_formats::record(false, s, at),
+        BOOKS => sample_formats::record(true, s, at),
         UVS => sample_shapes::uvs::record(s, at),
         CORNERS => sample_shapes::corners::record(s, at),
         _ => sample::damaged(at),
@@ -101,6 +107,8 @@ fn say_count(n: usize, what: &[u8]) {
 fn say_family(family: u8) {
     match family {
         CURVES => say(b"curves"),
+        SHEETS => say(b"sheets"),
+        BOOKS => say(b"books"),
         UVS => say(b"uvs"),
         CORNERS => say(b"corners"),
         _ => say(b"unknown"),

@@ -20,12 +20,24 @@ fn main() {
     write_all("curves", curves::sample::stored(1, 512, |_, answer| answer));
     write_all("sheets", sheets::sample::sheets(1));
     write_all("books", sheets::sample::books(1));
-    write_all("uvs", geometry::sample::uv_files(1, 1000));
-    write_all("corners", geometry::sample::corner_files(1, 2000));
+    write_all(
+        "uvs",
+        geometry::sample::uv_files(1, 1000, |_, answer| answer),
+    );
+    write_all(
+        "corners",
+        geometry::sample::corner_files(1, 2000, |_, answer| answer),
+    );
 
-    // Ten answers that are not the Rust's, which must be noticed.
+    // Ten answers of each family are not the Rust's, which must be noticed.
     let wrong = curves::sample::stored(2, 8, curves::sample::wrong_at_times);
     write_all("curves_wrong", wrong);
+    write_all("sheets_wrong", sheets::sample::wrong_sheets(2));
+    write_all("books_wrong", sheets::sample::wrong_books(2));
+    let wrong = geometry::sample::uv_files(2, 50, geometry::sample::wrong_uvs);
+    write_all("uvs_wrong", wrong);
+    let wrong = geometry::sample::corner_files(2, 50, geometry::sample::wrong_corners);
+    write_all("corners_wrong", wrong);
 
     // Files that are no whole sample, which must not pass for one.
     let good = &curves::sample::stored(2, 8, |_, answer| answer)[0];

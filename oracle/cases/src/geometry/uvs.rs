@@ -21,21 +21,21 @@ pub struct Case {
 /// The block: four corners of three layers of a pair.
 pub const BLOCK: usize = 24;
 
-/// The refusal, or 0 and the block's bits. A refused call leaves its output.
+/// The refusal, or 0, and the bits of the output after the call: the block, or
+/// what stood there before.
 #[derive(Clone, Debug, PartialEq)]
 pub struct Answer {
     pub refusal: u8,
-    pub numbers: [u32; BLOCK],
+    pub output: Vec<u32>,
 }
 
-pub fn answer(case: &Case) -> Answer {
+pub fn answer(case: &Case, before: f32) -> Answer {
     let refusal = refusal(case);
-    let numbers = if refusal == 0 {
-        block(case)
-    } else {
-        [0; BLOCK]
+    let output = match refusal {
+        0 => block(case).to_vec(),
+        _ => vec![bits_of(before); case.output],
     };
-    Answer { refusal, numbers }
+    Answer { refusal, output }
 }
 
 fn refusal(case: &Case) -> u8 {

@@ -51,6 +51,8 @@ fn first_difference(a: &[u8], b: &[u8]) -> usize {
 struct Told {
     files: Files,
     refusal: fn(&[u8]) -> u8,
+    /// Whether every fifth refusal is told wrong.
+    wrong: bool,
 }
 
 impl Told {
@@ -58,6 +60,7 @@ impl Told {
         Self {
             files: Files::new(SHEETS),
             refusal: loading_refusal,
+            wrong: false,
         }
     }
 
@@ -65,6 +68,7 @@ impl Told {
         Self {
             files: Files::new(BOOKS),
             refusal: book_refusal,
+            wrong: false,
         }
     }
 
@@ -76,12 +80,17 @@ impl Told {
         record.u16(base.len() as u16);
         record.u16(changed.len() as u16);
         record.bytes(&base);
-        for bytes in changed {
+        for (i, bytes) in changed.iter().enumerate() {
             let change = Change::between(&base, bytes).expect("a change");
             record.u16(change.length as u16);
             record.u16(change.place as u16);
             record.bytes(&change.patch);
-            record.u8((self.refusal)(bytes));
+            let refusal = (self.refusal)(bytes);
+            record.u8(if self.wrong && i % 5 == 0 {
+                refusal ^ 1
+            } else {
+                refusal
+            });
             record.u8(0);
             record.case();
         }
@@ -150,6 +159,25 @@ fn small(random: &mut Random) -> good::Size {
             return size;
         }
     }
+}
+
+/// A few sheets and books whose refusals are told wrong in every fifth case.
+pub fn wrong_sheets(seed: u64) -> Vec<Vec<u8>> {
+    let mut told = Told::sheets();
+    told.wrong = true;
+    let sheet = damage::sheet::base().write();
+    let mut random = Random::new(seed);
+    told.put(&sheet, &single_mutations(&mut random, &sheet, 50));
+    told.files.finish()
+}
+
+pub fn wrong_books(seed: u64) -> Vec<Vec<u8>> {
+    let mut told = Told::books();
+    told.wrong = true;
+    let book = damage::book::base().write();
+    let mut random = Random::new(seed);
+    told.put(&book, &single_mutations(&mut random, &book, 50));
+    told.files.finish()
 }
 
 /// The bytes as they are, and mutations that are changes of them.

@@ -8,6 +8,9 @@ use compare::arguments::Arguments;
 use compare::probe::shapes;
 use compare::tally::Tally;
 
+/// What stands in an output before the call: a refused call leaves it.
+const BEFORE: f32 = -77.0;
+
 fn main() {
     let Arguments { count, seed } = Arguments::read(5_000_000);
     let mut tally = Tally::default();
@@ -34,7 +37,8 @@ fn main() {
 }
 
 fn compare_uvs(tally: &mut Tally, case: &uvs::Case) {
-    tally.add(uvs::answer(case), shapes::uvs(case), || format!("{case:?}"));
+    let rust = uvs::answer(case, BEFORE);
+    tally.add(rust, shapes::uvs(case, BEFORE), || format!("{case:?}"));
 }
 
 fn compare_corners(tally: &mut Tally, case: &corners::Case) {

@@ -60,13 +60,9 @@ mod raw {
     }
 }
 
-/// What stands in the output before the call: a refused call leaves it.
-const BEFORE: f32 = -77.0;
-
-/// The block, or the refusal. A refused call that changed its output shows here
-/// as numbers that are not zero.
-pub fn uvs(case: &uvs::Case) -> uvs::Answer {
-    let mut out = vec![BEFORE; case.output];
+/// The call on an output in which `before` stands throughout.
+pub fn uvs(case: &uvs::Case, before: f32) -> uvs::Answer {
+    let mut out = vec![before; case.output];
     let refusal = unsafe {
         raw::probe_uvs(
             case.layers.as_ptr(),
@@ -77,13 +73,8 @@ pub fn uvs(case: &uvs::Case) -> uvs::Answer {
             out.len(),
         )
     };
-    let untouched = out.iter().all(|&x| x == BEFORE);
-    let numbers = match out.as_array::<{ uvs::BLOCK }>() {
-        Some(block) if refusal == 0 => block.map(bits_of),
-        _ if untouched => [0; uvs::BLOCK],
-        _ => [1; uvs::BLOCK],
-    };
-    uvs::Answer { refusal, numbers }
+    let output = out.into_iter().map(bits_of).collect();
+    uvs::Answer { refusal, output }
 }
 
 pub fn corners(case: &corners::Case) -> corners::Answer {
