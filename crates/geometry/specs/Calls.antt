@@ -1,7 +1,7 @@
 -- Document 01, "UVs and corners": the calls of this crate from outside, refusals included. Definitions only.
 -- A refused call leaves its lent output as it was, and an answer by value holds +0 throughout.
 use Prim.Native.Nat.{ℕ}
-use mathlib.Core.Bool.{Bool, true, false}
+use mathlib.Core.Bool.{cond}
 use mathlib.Core.List.{List}
 use lib.Dec.{eqb}
 use lib.ListN.{length}
@@ -16,11 +16,6 @@ use Rattle.geometry.specs.Corners.{rotated, cornersOf, translated}
 use Rattle.geometry.specs.Uvs.{baseUvs, applied, numbers}
 use Rattle.geometry.specs.Declined.{uvsRefusal, cornersRefusal, translateRefusal, rotateRefusal}
 
--- the first where the test holds, else the second
-abbrev pub pick : {A : Type 0} → Bool → A → A → A
-pick true a b = a
-pick false a b = b
-
 -- what a call of `uvs` gives: its refusal, and the output as it leaves it
 pub record Filling : Type 0 where
   pub refusal : ℕ
@@ -33,7 +28,7 @@ filled n o = record { refusal = n; out = o }
 unfoldable pub uvsOf : List Float → List Float → List Float → Filling
 uvsOf ls ss o =
     let n = uvsRefusal ls ss (length o) in
-    pick (eqb n 0) (filled 0 (numbers (applied (baseUvs ls) ss))) (filled n o)
+    cond (eqb n 0) (filled 0 (numbers (applied (baseUvs ls) ss))) (filled n o)
 
 -- +0 throughout
 abbrev pub noPoint : Vector2f
@@ -43,26 +38,26 @@ abbrev pub noCorners : Corners
 noCorners = record { topleft = noPoint; topright = noPoint; bottomleft = noPoint; bottomright = noPoint }
 
 -- a corner set or a point with its refusal
-abbrev pub placed : ℕ → Corners → Placed
-placed n k = record { refusal = n; corners = k }
+abbrev pub cornersWith : ℕ → Corners → Placed
+cornersWith n k = record { refusal = n; corners = k }
 
-abbrev pub turned : ℕ → Vector2f → Turned
-turned n p = record { refusal = n; point = p }
+abbrev pub pointWith : ℕ → Vector2f → Turned
+pointWith n p = record { refusal = n; point = p }
 
 -- `corners`
 unfoldable pub placedOf : Vector2f → Vector2f → ℕ → ℕ → Vector3f → Placed
 placedOf c size ox oy r =
     let n = cornersRefusal c size ox oy r in
-    pick (eqb n 0) (placed 0 (cornersOf c size ox oy r)) (placed n noCorners)
+    cond (eqb n 0) (cornersWith 0 (cornersOf c size ox oy r)) (cornersWith n noCorners)
 
 -- `translate`
 unfoldable pub movedOf : Corners → Vector2f → Placed
 movedOf k d =
     let n = translateRefusal k d in
-    pick (eqb n 0) (placed 0 (translated k d)) (placed n noCorners)
+    cond (eqb n 0) (cornersWith 0 (translated k d)) (cornersWith n noCorners)
 
 -- `rotate_point`
 unfoldable pub turnedOf : Vector2f → Vector2f → Vector3f → Turned
 turnedOf p c r =
     let n = rotateRefusal p c r in
-    pick (eqb n 0) (turned 0 (rotated p c r)) (turned n noPoint)
+    cond (eqb n 0) (pointWith 0 (rotated p c r)) (pointWith n noPoint)

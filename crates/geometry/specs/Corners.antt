@@ -1,6 +1,6 @@
 -- Document 01, "UVs and corners": the corners of a pane, as `Corners` of pane_tree.rs, in its order of operations. Definitions only.
 use Prim.Native.Nat.{ℕ}
-use mathlib.Core.Bool.{Bool, true, false, cond, _&&_}
+use mathlib.Core.Bool.{Bool, cond, _&&_}
 use lib.Dec.{eqb}
 use lib.Ieee.{Float, eq, neg}
 use Rattle.float.specs.Numbers.{#, _⊕_, _⊖_, _⊗_, zero'}
@@ -37,13 +37,9 @@ turned p c x y z =
     let y3 = y1 ⊗ x .cos ⊖ z2 ⊗ x .sin in
     record { x = c .x ⊕ x2; y = c .y ⊕ y3 }
 
-abbrev pub pick : Bool → Vector2f → Vector2f → Vector2f
-pick true a b = a
-pick false a b = b
-
 -- `rotate_point`: all-zero rotation gives centre + point
 unfoldable pub rotated : Vector2f → Vector2f → Vector3f → Vector2f
-rotated p c r = pick (still r) (sum c p) (turned p c (turnBack (r .x)) (turnBack (r .y)) (turnBack (r .z)))
+rotated p c r = cond (still r) (sum c p) (turned p c (turnBack (r .x)) (turnBack (r .y)) (turnBack (r .z)))
 
 -- where a pane of this size starts, counted from its pivot: origin 0 is Center, 1 Left or Top, 2 Right or Bottom
 unfoldable pub startOf : Float → ℕ → Float

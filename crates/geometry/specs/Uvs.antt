@@ -2,11 +2,11 @@
 use Prim.Native.Nat.{ℕ, _+_, _*_, _/_, _%_}
 use mathlib.Core.Bool.{Bool, cond}
 use mathlib.Core.List.{List, [], _∷_}
-use lib.Dec.{leb, eqb}
+use lib.Dec.{leb}
 use lib.ListN.{length, getD, set}
 use lib.Ieee.{Float, nan}
 use Rattle.laws.specs.Table.{table}
-use Rattle.float.specs.Numbers.{#, _⊕_, _⊖_, _⊗_, zero', one'}
+use Rattle.float.specs.Numbers.{_⊕_, _⊖_, _⊗_, zero', one'}
 use Rattle.float.specs.Turn.{radiansOf}
 use Rattle.float.specs.SinCos.{sinCosOf}
 use Rattle.float.specs.declared.turn.SinCos.{SinCos}
@@ -55,6 +55,7 @@ abbrev pub baseUvs : List Float → Block
 baseUvs ls = table 4 (cornerUvs ls)
 
 -- ---- SRTs, five numbers each: translate u, v, rotate, scale u, v
+-- SRT l is given
 abbrev pub hasSrt : List Float → ℕ → Bool
 hasSrt ss l = leb (l * 5 + 5) (length ss)
 

@@ -1,15 +1,19 @@
 // UVs and corners (document 01, "UVs and corners"), as the Rust's anim_state.rs and pane_tree.rs have them.
-// The four functions here are the calls from outside: none asks anything of its arguments. Each answers a refusal's number, 0 for none;
-// on a refusal a lent output stays as it was, and an answer by value holds +0 throughout.
+// The calls from outside are the four functions below. None asks anything of its arguments: each answers a refusal's number, 0 for none.
+// On a refusal a lent output stays as it was, and an answer by value holds +0 throughout.
 mod checks;
 pub mod points;
-pub mod uv;
+mod uv;
 
 use points::Corners;
 use points::Vector2f;
 use points::Vector3f;
+pub use uv::Srt;
+pub use uv::apply_srt_to_uvs;
+pub use uv::compute_uvs;
+pub use uv::transform_uv_srt;
 ghost use mathlib.Core.Path.{_≡_};
-ghost use Rattle.geometry.specs.Calls.{filled, noPoint, noCorners, uvsOf, placedOf, movedOf, turnedOf};
+ghost use Rattle.geometry.specs.Calls.{filled, noCorners, uvsOf, placedOf, movedOf, turnedOf};
 
 #[repr(C)]
 pub struct Placed {
@@ -24,16 +28,10 @@ pub struct Turned {
 }
 
 // +0 throughout.
-fn no_point() -> Vector2f
-    ensures { λ r. ⌜ r ≡ noPoint ⌝ }
-{
-    Vector2f { x: 0.0, y: 0.0 }
-}
-
 fn no_corners() -> Corners
     ensures { λ r. ⌜ r ≡ noCorners ⌝ }
 {
-    let p = no_point();
+    let p = Vector2f { x: 0.0, y: 0.0 };
     Corners {
         topleft: p,
         topright: p,
@@ -100,7 +98,7 @@ pub fn rotate_point(point: Vector2f, center: Vector2f, rotation: Vector3f) -> Tu
 {
     let refusal = checks::rotate_refusal(point, center, rotation);
     if refusal != 0 {
-        let point = no_point();
+        let point = Vector2f { x: 0.0, y: 0.0 };
         return Turned { refusal, point };
     }
     let point = Corners::rotate_point(point, center, rotation);

@@ -1,7 +1,7 @@
 // Vectors, and the four corners of a pane (document 01, "UVs and corners"; Corners of pane_tree.rs).
 use float::SinCos;
 ghost use mathlib.Core.Path.{_≡_};
-ghost use Rattle.geometry.specs.Corners.{sum, still, turnBack, turned, rotated, startOf, cornersOf, translated};
+ghost use Rattle.geometry.specs.Corners.{sum, turnBack, turned, rotated, startOf, cornersOf, translated};
 
 #[repr(C)]
 pub struct Vector2f {
@@ -32,13 +32,6 @@ pub fn add(a: Vector2f, b: Vector2f) -> Vector2f
         x: a.x + b.x,
         y: a.y + b.y,
     }
-}
-
-// Every component is zero, +0 or -0.
-fn is_still(r: Vector3f) -> bool
-    ensures { λ b. ⌜ b ≡ still r ⌝ }
-{
-    (r.x == 0.0) & (r.y == 0.0) & (r.z == 0.0)
 }
 
 // Sine and cosine of an angle in degrees, turned the other way.
@@ -79,7 +72,7 @@ impl Corners {
     pub fn rotate_point(point: Vector2f, center: Vector2f, rotation: Vector3f) -> Vector2f
         ensures { λ r. ⌜ r ≡ rotated point center rotation ⌝ }
     {
-        if is_still(rotation) {
+        if (rotation.x == 0.0) & (rotation.y == 0.0) & (rotation.z == 0.0) {
             return add(center, point);
         }
         let x = turn_back(rotation.x);
@@ -88,6 +81,7 @@ impl Corners {
         turn(point, center, x, y, z)
     }
 
+    // The corners of a pane of this size about its pivot, which is the centre.
     pub fn compute(
         center: Vector2f,
         size: Vector2f,

@@ -1,5 +1,5 @@
 -- A refusal beside +0, or 0 beside the answer.
-use Rattle.geometry.specs.Calls.{placed, placedOf}
+use Rattle.geometry.specs.Calls.{cornersWith, placedOf}
 use Rattle.geometry.proofs.Answers.{declined, accepted}
 use borrow.Author.Needs.{needs}
 use Rattle.geometry.proofs.corners.Statement.{statement}
@@ -13,14 +13,14 @@ no-corners-requires c κs = search needs
 
 returns : tie.Need-returns
 unfolding placedOf
-returns c = declined placed _ _ _ _ _ (c .before .before .corners-refusal .ensures) (c .before .if1 .taken) (c .no-corners .ensures)
+returns c = declined cornersWith _ _ _ _ _ (c .before .before .corners-refusal .ensures) (c .before .if1 .taken) (c .no-corners .ensures)
 
 compute-requires : tie.Need-compute-requires
 compute-requires c κs = search needs
 
 returns-2 : tie.Need-returns-2
 unfolding placedOf
-returns-2 c = accepted placed _ _ _ _ _ (c .before .before .corners-refusal .ensures) (c .before .if1 .left) (c .compute .ensures)
+returns-2 c = accepted cornersWith _ _ _ _ _ (c .before .before .corners-refusal .ensures) (c .before .if1 .left) (c .compute .ensures)
 
 pub corners-spec : {M : Type 1} → statement M
 corners-spec =

@@ -1,5 +1,6 @@
 -- A refusal beside +0, or 0 beside the answer.
-use Rattle.geometry.specs.Calls.{turned, turnedOf}
+use mathlib.Core.Path.{refl}
+use Rattle.geometry.specs.Calls.{pointWith, turnedOf}
 use Rattle.geometry.proofs.Answers.{declined, accepted}
 use borrow.Author.Needs.{needs}
 use Rattle.geometry.proofs.rotate_point.Statement.{statement}
@@ -8,21 +9,18 @@ use Rattle.geometry.proofs.rotate_point.Tie as tie
 rotate-refusal-requires : tie.Need-rotate-refusal-requires
 rotate-refusal-requires c κs = search needs
 
-no-point-requires : tie.Need-no-point-requires
-no-point-requires c κs = search needs
-
 returns : tie.Need-returns
 unfolding turnedOf
-returns c = declined turned _ _ _ _ _ (c .before .before .rotate-refusal .ensures) (c .before .if1 .taken) (c .no-point .ensures)
+returns c = declined pointWith _ _ _ _ _ (c .before .rotate-refusal .ensures) (c .if1 .taken) refl
 
 rotate-point-requires : tie.Need-rotate-point-requires
 rotate-point-requires c κs = search needs
 
 returns-2 : tie.Need-returns-2
 unfolding turnedOf
-returns-2 c = accepted turned _ _ _ _ _ (c .before .before .rotate-refusal .ensures) (c .before .if1 .left) (c .rotate-point .ensures)
+returns-2 c = accepted pointWith _ _ _ _ _ (c .before .before .rotate-refusal .ensures) (c .before .if1 .left) (c .rotate-point .ensures)
 
 pub rotate-point-spec : {M : Type 1} → statement M
 rotate-point-spec =
     tie.close
-    (tie.spec rotate-refusal-requires no-point-requires returns rotate-point-requires returns-2)
+    (tie.spec rotate-refusal-requires returns rotate-point-requires returns-2)

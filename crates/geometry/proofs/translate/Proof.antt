@@ -1,5 +1,5 @@
 -- A refusal beside +0, or 0 beside the answer.
-use Rattle.geometry.specs.Calls.{placed, movedOf}
+use Rattle.geometry.specs.Calls.{cornersWith, movedOf}
 use Rattle.geometry.proofs.Answers.{declined, accepted}
 use borrow.Author.Needs.{needs}
 use Rattle.geometry.proofs.translate.Statement.{statement}
@@ -13,14 +13,14 @@ no-corners-requires c κs = search needs
 
 returns : tie.Need-returns
 unfolding movedOf
-returns c = declined placed _ _ _ _ _ (c .before .before .translate-refusal .ensures) (c .before .if1 .taken) (c .no-corners .ensures)
+returns c = declined cornersWith _ _ _ _ _ (c .before .before .translate-refusal .ensures) (c .before .if1 .taken) (c .no-corners .ensures)
 
 translate-requires : tie.Need-translate-requires
 translate-requires c κs = search needs
 
 returns-2 : tie.Need-returns-2
 unfolding movedOf
-returns-2 c = accepted placed _ _ _ _ _ (c .before .before .translate-refusal .ensures) (c .before .if1 .left) (c .translate .ensures)
+returns-2 c = accepted cornersWith _ _ _ _ _ (c .before .before .translate-refusal .ensures) (c .before .if1 .left) (c .translate .ensures)
 
 pub translate-spec : {M : Type 1} → statement M
 translate-spec =

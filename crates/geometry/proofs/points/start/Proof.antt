@@ -1,5 +1,5 @@
 -- Each arm of the match is its case of the definition.
-use borrow.Author.Tests.{eq-eqb, ne-eqb}
+use borrow.Author.Tests.{ne-eqb}
 use Rattle.geometry.specs.Corners.{startOf}
 use Rattle.geometry.proofs.points.start.Statement.{statement}
 use Rattle.geometry.proofs.points.start.Tie as tie

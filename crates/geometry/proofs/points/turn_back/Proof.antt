@@ -1,3 +1,4 @@
+-- The two calls are the definition.
 use borrow.Author.Needs.{needs}
 use Rattle.geometry.proofs.points.turn_back.Statement.{statement}
 use Rattle.geometry.proofs.points.turn_back.Tie as tie

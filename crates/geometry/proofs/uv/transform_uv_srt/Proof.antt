@@ -1,5 +1,5 @@
 -- The code is the definition, at the sine and cosine that the two calls give.
-use mathlib.Core.Path.{_≡_, ap, _∙_}
+use mathlib.Core.Path.{ap, _∙_}
 use borrow.Author.Needs.{needs}
 use Rattle.float.specs.SinCos.{sinCosOf}
 use Rattle.float.specs.declared.turn.SinCos.{SinCos}

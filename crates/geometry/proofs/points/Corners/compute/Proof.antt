@@ -1,37 +1,27 @@
+-- The six calls give the start of each axis and the four corners.
 use Rattle.geometry.specs.Corners.{cornersOf}
 use borrow.Author.Needs.{needs}
 use Rattle.geometry.proofs.points.Corners.compute.Statement.{statement}
 use Rattle.geometry.proofs.points.Corners.compute.Tie as tie
-use Rattle.geometry.proofs.points.Corners.compute.Reads as reads
-use Rattle.geometry.proofs.points.Corners.compute.Lts as lts
-use Rattle.geometry.proofs.points.Corners.rotate_point.Reads as rotate-point-reads
-use Rattle.geometry.proofs.points.start.Reads as start-reads
 
--- src/points.rt:96:13
 start-requires : tie.Need-start-requires
 start-requires c κs = search needs
 
--- src/points.rt:97:13
 start-requires-2 : tie.Need-start-requires-2
 start-requires-2 c κs = search needs
 
--- src/points.rt:100:13
 rotate-point-requires : tie.Need-rotate-point-requires
 rotate-point-requires c κs = search needs
 
--- src/points.rt:101:13
 rotate-point-requires-2 : tie.Need-rotate-point-requires-2
 rotate-point-requires-2 c κs = search needs
 
--- src/points.rt:102:13
 rotate-point-requires-3 : tie.Need-rotate-point-requires-3
 rotate-point-requires-3 c κs = search needs
 
--- src/points.rt:103:13
 rotate-point-requires-4 : tie.Need-rotate-point-requires-4
 rotate-point-requires-4 c κs = search needs
 
--- src/points.rt:87:5
 returns : tie.Need-returns
 unfolding cornersOf
 returns c = cc

@@ -1,6 +1,6 @@
 -- All-zero rotation gives the sum; any other gives the turned point, from what the four calls ensure.
-use mathlib.Core.Path.{_≡_, sym, _∙_}
-use mathlib.Core.Bool.{Bool, true, false}
+use mathlib.Core.Path.{_≡_}
+use mathlib.Core.Bool.{false}
 use borrow.Author.Needs.{needs}
 use Rattle.float.specs.declared.turn.SinCos.{SinCos}
 use Rattle.geometry.specs.declared.points.Vector2f.{Vector2f}
@@ -9,15 +9,12 @@ use Rattle.geometry.specs.Corners.{still, turnBack, turned, rotated}
 use Rattle.geometry.proofs.points.Corners.rotate_point.Statement.{statement}
 use Rattle.geometry.proofs.points.Corners.rotate_point.Tie as tie
 
-is-still-requires : tie.Need-is-still-requires
-is-still-requires c κs = search needs
-
 add-requires : tie.Need-add-requires
 add-requires c κs = search needs
 
 returns : tie.Need-returns
 unfolding rotated
-returns c = rw (← c .before .before .is-still .ensures, c .before .if1 .taken) (c .add .ensures)
+returns c = rw (c .before .if1 .taken) (c .add .ensures)
 
 turn-back-requires : tie.Need-turn-back-requires
 turn-back-requires c κs = search needs
@@ -32,20 +29,19 @@ turn-requires : tie.Need-turn-requires
 turn-requires c κs = search needs
 
 -- what the calls give, put together
-whole : (b : Bool) (x y z : SinCos) (o p k : Vector2f) (r : Vector3f) → b ≡ still r → b ≡ false → x ≡ turnBack (r .x) → y ≡ turnBack (r .y) → z ≡ turnBack (r .z) → o ≡ turned p k x y z → o ≡ rotated p k r
+whole : (x y z : SinCos) (o p k : Vector2f) (r : Vector3f) → still r ≡ false → x ≡ turnBack (r .x) → y ≡ turnBack (r .y) → z ≡ turnBack (r .z) → o ≡ turned p k x y z → o ≡ rotated p k r
 unfolding rotated
-whole b x y z o p k r e f ex ey ez eo = rw (sym e ∙ f, ← ex, ← ey, ← ez) eo
+whole x y z o p k r f ex ey ez eo = rw (f, ← ex, ← ey, ← ez) eo
 
 returns-2 : tie.Need-returns-2
 returns-2 c =
-    whole _ _ _ _ _ _ _ _ (c .before .before .before .before .before .is-still .ensures) (c .before .before .before .before .if1 .left)
+    whole _ _ _ _ _ _ _ (c .before .before .before .before .if1 .left)
     (c .before .before .before .turn-back .ensures) (c .before .before .turn-back2 .ensures) (c .before .turn-back3 .ensures) (c .turn .ensures)
 
 pub rotate-point-spec : {M : Type 1} → statement M
 rotate-point-spec =
     tie.close
     (tie.spec
-    is-still-requires
     add-requires
     returns
     turn-back-requires
