@@ -5,9 +5,8 @@ ghost use mathlib.Core.Path.{_≡_};
 ghost use mathlib.Core.Bool.{true};
 ghost use Prim.Native.Nat.{ℕ, _+_, _*_, _<_, _≤_};
 ghost use lib.ListN.{length};
-ghost use Rattle.float.specs.Rising.{rising, notBelow};
 ghost use Rattle.field.specs.Read.{finiteAt, finiteRow};
-ghost use Rattle.curve.specs.Curve.{Readable, Ordered};
+ghost use Rattle.curve.specs.Curve.{Readable};
 ghost use Rattle.sample.specs.Sample.{Stepped};
 ghost use Rattle.sample_curves.specs.Curves.{curveCase, casesDiffer};
 
@@ -20,41 +19,6 @@ const ANSWER: usize = 6;
 
 // The most keys that a stored curve has.
 const MOST_KEYS: usize = 16;
-
-// The i-th frame is not below the one before it.
-fn not_below(frames: &[f32], i: usize) -> bool
-    requires { ⌜ i < length (now frames) ⌝ }
-    ensures { λ r. ⌜ r ≡ notBelow (now (frames .entry)) 0 i ⌝ }
-{
-    if i == 0 {
-        return frames[0] <= frames[0];
-    }
-    frames[i - 1] <= frames[i]
-}
-
-fn rises(frames: &[f32]) -> bool
-    ensures { λ r. ⌜ r ≡ rising (now (frames .entry)) ⌝ }
-{
-    let mut i = 0;
-    while i < frames.len() {
-        if not_below(frames, i) {
-            i += 1;
-        } else {
-            return false;
-        }
-    }
-    true
-}
-
-// What an evaluation asks of the frames.
-fn ordered(kind: u8, frames: &[f32]) -> bool
-    ensures { λ r. ⌜ (r ≡ true → Ordered kind (now (frames .entry))) ⌝ }
-{
-    if kind == curve::CONSTANT {
-        return true;
-    }
-    rises(frames)
-}
 
 // Copies n keys, which are finite.
 fn load(s: &[u8], at: usize, n: usize, frames: &mut [f32], values: &mut [f32], slopes: &mut [f32])
@@ -130,7 +94,7 @@ fn cases(
     differ
 }
 
-// The cases of a record at `at`, whose keys were read: they are run where the keys are in order.
+// The cases of a record at `at`, whose keys were read: they are run where these follow the key rules.
 fn asked(
     kind: u8,
     frames: &[f32],
@@ -145,7 +109,7 @@ fn asked(
     requires { ⌜ (at ≤ first) × (first + m * 10 ≤ length (now s)) × (finiteRow (now s) first m ≡ true) ⌝ }
     ensures { λ r. ⌜ Stepped (now (s .entry)) at r ⌝ }
 {
-    if !ordered(kind, frames) {
+    if !keys::curve_ok(kind as usize, frames, values, slopes, 0, frames.len()) {
         return sample::damaged(at);
     }
     let differ = cases(kind, frames, values, slopes, s, first, m);
@@ -156,7 +120,7 @@ fn asked(
     }
 }
 
-// A record whose kind, n keys and m frames were read: it is whole where its numbers are finite and its keys in order.
+// A record whose kind, n keys and m frames were read: it is whole where its numbers are finite.
 fn body(s: &[u8], at: usize, kind: u8, n: usize, m: usize) -> Step
     requires { ⌜ (n ≤ 16) × (at + 4 + n * 12 + m * 10 ≤ length (now s)) ⌝ }
     ensures { λ r. ⌜ Stepped (now (s .entry)) at r ⌝ }

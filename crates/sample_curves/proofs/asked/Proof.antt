@@ -1,10 +1,11 @@
-use borrow.Author.Tests.{not-false}
+use Rattle.keys.specs.Checked.{rising-rule}
+use Rattle.laws.specs.Tests.{yes}
 use borrow.Author.Needs.{needs}
 use Rattle.sample_curves.proofs.asked.Statement.{statement}
 use Rattle.sample_curves.proofs.asked.Tie as tie
 
-ordered-requires : tie.Need-ordered-requires
-ordered-requires c κs = search needs
+curve-ok-requires : tie.Need-curve-ok-requires
+curve-ok-requires c κs = search needs
 
 damaged-requires : tie.Need-damaged-requires
 damaged-requires c κs = search needs
@@ -13,13 +14,13 @@ returns : tie.Need-returns
 returns c = search needs
 
 cases-requires : tie.Need-cases-requires
-cases-requires c κs = (record { values = search needs; slopes = search needs; ordered = c .before .ordered .ensures (not-false _ (c .if1 .left)) }, search needs)
+cases-requires c κs = (record { values = search needs; slopes = search needs; ordered = λ n. rising-rule _ _ _ _ _ _ n (yes (c .before .curve-ok .ensures) (c .if1 .left)) }, search needs)
 
-mul-t12 : tie.Need-mul-t12
-mul-t12 c = search needs
+mul-t11 : tie.Need-mul-t11
+mul-t11 c = search needs
 
-add-t13 : tie.Need-add-t13
-add-t13 c = search needs
+add-t12 : tie.Need-add-t12
+add-t12 c = search needs
 
 mul-t14 : tie.Need-mul-t14
 mul-t14 c = search needs
@@ -34,12 +35,12 @@ pub asked-spec : {M : Type 1} → statement M
 asked-spec =
     tie.close
     (tie.spec
-    ordered-requires
+    curve-ok-requires
     damaged-requires
     returns
     cases-requires
-    mul-t12
-    add-t13
+    mul-t11
+    add-t12
     mul-t14
     add-t15
     returns-2)

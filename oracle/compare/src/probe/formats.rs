@@ -1,4 +1,7 @@
-//! Whether bytes are a sheet, or a book, and whether keys follow the key rules.
+//! Whether bytes are a sheet, or a book, whether keys follow the key rules, and
+//! loading.
+
+use cases::format::load::{Answer, Arrays};
 
 mod raw {
     unsafe extern "C" {
@@ -14,6 +17,16 @@ mod raw {
             slopes: *const f32,
             slopes_len: usize,
         ) -> bool;
+        pub fn probe_load(
+            s: *const u8,
+            s_len: usize,
+            frames: *mut f32,
+            frames_len: usize,
+            values: *mut f32,
+            values_len: usize,
+            slopes: *mut f32,
+            slopes_len: usize,
+        ) -> u8;
     }
 }
 
@@ -38,4 +51,22 @@ pub fn keys_ok(sheet: &[u8], frames: &[f32], values: &[f32], slopes: &[f32]) -> 
             slopes.len(),
         )
     }
+}
+
+/// Loads a sheet into the arrays.
+pub fn load(sheet: &[u8], arrays: &Arrays) -> Answer {
+    let [mut frames, mut values, mut slopes] = arrays.clone();
+    let refusal = unsafe {
+        raw::probe_load(
+            sheet.as_ptr(),
+            sheet.len(),
+            frames.as_mut_ptr(),
+            frames.len(),
+            values.as_mut_ptr(),
+            values.len(),
+            slopes.as_mut_ptr(),
+            slopes.len(),
+        )
+    };
+    Answer::new(refusal, [frames, values, slopes])
 }
