@@ -13,6 +13,7 @@ damaged-requires c κs = search needs
 returns : tie.Need-returns
 returns c = search needs
 
+-- the key rules were seen to hold, and of a curve that is not Constant they say that its frames never fall
 cases-requires : tie.Need-cases-requires
 cases-requires c κs = (record { values = search needs; slopes = search needs; ordered = λ n. rising-rule _ _ _ _ _ _ n (yes (c .before .curve-ok .ensures) (c .if1 .left)) }, search needs)
 

@@ -44,27 +44,32 @@ slice-aggregate-load-2 c = search needs
 slice-aggregate-load-3 : tie.Need-slice-aggregate-load-3
 slice-aggregate-load-3 c = search needs
 
+-- the test said that the row is finite
 load-requires : tie.Need-load-requires
 load-requires c κs = ((omega arith, yes (c .before .before .before .before .before .before .finite-row .ensures) (c .before .before .before .before .before .if1 .left)), search needs)
 
 array-share-prefix-frames : tie.Need-array-share-prefix-frames
 array-share-prefix-frames c = search needs
 
+-- a part of so many elements of a longer list has so many
 slice-aggregate-asked : tie.Need-slice-aggregate-asked
 slice-aggregate-asked c = simp length-take (omega arith)
 
 array-share-prefix-values : tie.Need-array-share-prefix-values
 array-share-prefix-values c = search needs
 
+-- a part of so many elements of a longer list has so many
 slice-aggregate-asked-2 : tie.Need-slice-aggregate-asked-2
 slice-aggregate-asked-2 c = simp length-take (omega arith)
 
 array-share-prefix-slopes : tie.Need-array-share-prefix-slopes
 array-share-prefix-slopes c = search needs
 
+-- a part of so many elements of a longer list has so many
 slice-aggregate-asked-3 : tie.Need-slice-aggregate-asked-3
 slice-aggregate-asked-3 c = simp length-take (omega arith)
 
+-- a part of so many elements of a longer list has so many
 asked-requires : tie.Need-asked-requires
 asked-requires c κs = ((simp length-take (omega arith), simp length-take (omega arith)), (omega arith, omega arith, yes (c .before .before .before .before .before .before .before .before .before .before .before .finite-row2 .ensures) (c .before .before .before .before .before .before .before .before .before .before .if2 .left)))
 

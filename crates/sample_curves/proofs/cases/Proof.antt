@@ -19,6 +19,7 @@ mul-told c = search needs
 add-told : tie.Need-add-told Inv-loop μ-loop
 add-told c = search needs
 
+-- the law of a loop that counts
 loop-holds : tie.Need-loop-holds Inv-loop μ-loop
 loop-holds c = counted-none _ _
 
@@ -34,6 +35,7 @@ mul-case-2 c = search needs
 add-case-2 : tie.Need-add-case-2 Inv-loop μ-loop
 add-case-2 c = search needs
 
+-- the numbers of the row were all seen to be finite
 case-requires : tie.Need-case-requires Inv-loop μ-loop
 case-requires c κs =
     (c .before .before .before .before .before .before .pre .0, (omega arith, omega arith, row-at _ _ _ (c .before .loop .i) _ (c .before .before .before .before .before .before .pre .1 .1) (omega arith) (omega arith)))
@@ -50,10 +52,12 @@ add-i c = search needs
 loop-less : tie.Need-loop-less Inv-loop μ-loop
 loop-less c = omega arith
 
+-- the law of a loop that counts
 loop-again : tie.Need-loop-again Inv-loop μ-loop
 unfolding caseDiffers
 loop-again c = counted-more (c .before .before .before .loop .inv) (omega arith) (cc) (omega arith)
 
+-- the law of a loop that counts
 returns : tie.Need-returns Inv-loop μ-loop
 returns c = counted-all (c .before .loop .inv) (omega arith)
 

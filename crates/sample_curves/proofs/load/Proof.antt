@@ -22,6 +22,7 @@ mul-key c = search needs
 add-key : tie.Need-add-key Inv-loop μ-loop
 add-key c = search needs
 
+-- the numbers of the row were all seen to be finite
 f32-at-requires : tie.Need-f32-at-requires Inv-loop μ-loop
 f32-at-requires c κs = (omega arith, row-at _ _ (c .before .before .before .before .before .before .args .n * 3) (c .before .loop .i * 3 + 0) _ (c .before .before .before .before .before .before .pre .0 .1) (omega arith) (omega arith))
 
@@ -34,6 +35,7 @@ slice-write-frames c = search needs
 add-f32-at : tie.Need-add-f32-at Inv-loop μ-loop
 add-f32-at c = search needs
 
+-- the numbers of the row were all seen to be finite
 f32-at-requires-2 : tie.Need-f32-at-requires-2 Inv-loop μ-loop
 f32-at-requires-2 c κs = (omega arith, row-at _ _ (c .before .before .before .before .before .before .before .args .n * 3) (c .before .before .loop .i * 3 + 1) _ (c .before .before .before .before .before .before .before .pre .0 .1) (omega arith) (omega arith))
 
@@ -46,6 +48,7 @@ slice-write-values c = search needs
 add-f32-at-2 : tie.Need-add-f32-at-2 Inv-loop μ-loop
 add-f32-at-2 c = search needs
 
+-- the numbers of the row were all seen to be finite
 f32-at-requires-3 : tie.Need-f32-at-requires-3 Inv-loop μ-loop
 f32-at-requires-3 c κs = (omega arith, row-at _ _ (c .before .before .before .before .before .before .before .before .args .n * 3) (c .before .before .before .loop .i * 3 + 2) _ (c .before .before .before .before .before .before .before .before .pre .0 .1) (omega arith) (omega arith))
 

@@ -19,12 +19,14 @@ copy-requires c κs = search needs
 array-borrow-prefix-bytes : tie.Need-array-borrow-prefix-bytes
 array-borrow-prefix-bytes c = search needs
 
+-- a part of so many elements of a longer list has so many
 slice-aggregate-changes : tie.Need-slice-aggregate-changes
 slice-aggregate-changes c = simp length-take (omega arith)
 
 add-changes : tie.Need-add-changes
 add-changes c = search needs
 
+-- a part of so many elements of a longer list has so many
 changes-requires : tie.Need-changes-requires
 changes-requires c κs = simp length-take (omega arith)
 

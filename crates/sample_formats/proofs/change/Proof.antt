@@ -31,6 +31,7 @@ copy-requires c κs = search needs
 slice-reshare-prefix-case : tie.Need-slice-reshare-prefix-case
 slice-reshare-prefix-case c = search needs
 
+-- a part of so many elements of a longer list has so many
 slice-aggregate-case : tie.Need-slice-aggregate-case
 slice-aggregate-case c = simp length-take (omega arith)
 

@@ -37,18 +37,21 @@ load-requires-2 c κs = search needs
 array-share-prefix-layer-numbers : tie.Need-array-share-prefix-layer-numbers
 array-share-prefix-layer-numbers c = search needs
 
+-- a part of so many elements of a longer list has so many
 slice-aggregate-case : tie.Need-slice-aggregate-case
 slice-aggregate-case c = simp length-take (omega arith)
 
 array-share-prefix-srt-numbers : tie.Need-array-share-prefix-srt-numbers
 array-share-prefix-srt-numbers c = search needs
 
+-- a part of so many elements of a longer list has so many
 slice-aggregate-case-2 : tie.Need-slice-aggregate-case-2
 slice-aggregate-case-2 c = simp length-take (omega arith)
 
 array-borrow-prefix-output : tie.Need-array-borrow-prefix-output
 array-borrow-prefix-output c = search needs
 
+-- a part of so many elements of a longer list has so many
 slice-aggregate-case-3 : tie.Need-slice-aggregate-case-3
 slice-aggregate-case-3 c = simp length-take (omega arith)
 
@@ -64,6 +67,7 @@ mul-case c = search needs
 add-case-2 : tie.Need-add-case-2
 add-case-2 c = search needs
 
+-- a part of so many elements of a longer list has so many
 case-requires : tie.Need-case-requires
 case-requires c κs = simp length-take (omega arith)
 

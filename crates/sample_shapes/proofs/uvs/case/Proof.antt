@@ -16,6 +16,7 @@ same-numbers-requires c κs = search needs
 same-length : tie.Need-same-length
 same-length c = search needs
 
+-- the call's answer and the comparison's, put into the definition
 returns : tie.Need-returns
 returns c = ap (λ (b : Bool). eqb (c .before .before .before .before .uvs .result) (c .before .before .before .before .before .before .before .before .before .before .args .refusal) && b) (c .same-numbers .ensures) ∙ ap (λ (f : Filling). sameFilling f (c .before .before .before .before .before .before .before .before .before .before .args .refusal) (c .before .before .before .before .before .before .before .before .before .before .args .s .now) (c .before .before .before .before .before .before .before .before .before .before .args .at)) (c .before .before .before .before .uvs .ensures)
 

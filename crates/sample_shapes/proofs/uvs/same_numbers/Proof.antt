@@ -12,6 +12,7 @@ Inv-loop out s at i₀ i = Passed (length out) (sameNumber out s at) i
 abbrev μ-loop : tie.MeasureT-loop
 μ-loop out s at i₀ i = length out - i
 
+-- the law of a loop that stops at the first that fails
 loop-holds : tie.Need-loop-holds Inv-loop μ-loop
 loop-holds c = passed-none _ _
 
@@ -24,12 +25,15 @@ add-i c = omega arith
 loop-less : tie.Need-loop-less Inv-loop μ-loop
 loop-less c = omega arith
 
+-- the law of a loop that stops at the first that fails
 loop-again : tie.Need-loop-again Inv-loop μ-loop
 loop-again c = passed-more (c .before .before .before .loop .inv) (omega arith) (cc)
 
+-- the law of a loop that stops at the first that fails
 returns : tie.Need-returns Inv-loop μ-loop
 returns c = passed-not (c .before .before .before .loop .inv) (omega arith) (cc)
 
+-- the law of a loop that stops at the first that fails
 returns-2 : tie.Need-returns-2 Inv-loop μ-loop
 returns-2 c = passed-all (c .before .loop .inv) (omega arith)
 
