@@ -53,7 +53,7 @@ module _ (fs vs ss : List Float) (first count : ℕ) where
   unfolding curveOk
   step-rule curve e h = and-1 _ (risingIn fs first count) (rw e at h)
 
-  rising-rule : (curve : ℕ) → (curve ≡ constant → ⊥) → curveOk curve fs vs ss first count ≡ true → risingIn fs first count ≡ true
+  pub rising-rule : (curve : ℕ) → (curve ≡ constant → ⊥) → curveOk curve fs vs ss first count ≡ true → risingIn fs first count ≡ true
   unfolding curveOk
   rising-rule curve n h = go (eqb curve step) (rw (ne-eqb curve constant n) at h)
     where

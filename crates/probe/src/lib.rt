@@ -1,5 +1,8 @@
 // Inner functions, exported so that a program can compare them with the Rust on millions of inputs. No part of the player.
 // An export requires nothing: it tests what the function inside requires, and answers 0 where a test fails.
+mod formats;
+mod shapes;
+
 ghost use mathlib.Core.Path.{_≡_};
 ghost use Rattle.float.specs.Rising.{rising};
 ghost use Rattle.probe.specs.Checked.{canRead, checkedCurve, checkedCurveStepU16};

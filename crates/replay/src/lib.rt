@@ -1,29 +1,28 @@
 // Replays stored samples of the Rust's answers, and counts the cases in which this code answers otherwise.
 // A sample is a family's number, three zero bytes, how many cases follow (u32), and the family's records.
-mod curves;
-
 use libc::STDOUT_FILENO;
+use sample::Step;
 ghost use mathlib.Core.Path.{_≡_};
-ghost use mathlib.Core.Bool.{cond};
 ghost use Prim.Native.Nat.{ℕ, _<_, _≤_};
 ghost use lib.ListN.{length};
-ghost use Rattle.replay.specs.Sample.{Stepped, sameAnswer};
+ghost use Rattle.sample.specs.Sample.{Stepped};
 
-// The families.
-pub const CURVES: u8 = 1;
+// The families, by the numbers that stand in a sample's first byte.
+const CURVES: u8 = 1;
+
+const SHEETS: u8 = 2;
+
+const BOOKS: u8 = 3;
+
+const UVS: u8 = 4;
+
+const CORNERS: u8 = 5;
 
 // How many bytes a sample's head takes.
 const HEAD: usize = 8;
 
 // The longest sample: what is longer is told so.
 const LONGEST: usize = 65536;
-
-// One record replayed: where the next begins, its cases, and how many of them differ. A damaged record ends where it begins.
-pub struct Step {
-    pub next: usize,
-    pub cases: usize,
-    pub differ: usize,
-}
 
 // A whole sample replayed: its cases, and how many of them differ. Where it is damaged, the counts are of what came before.
 pub struct Tally {
@@ -32,41 +31,18 @@ pub struct Tally {
     pub differ: usize,
 }
 
-// The answer x is the stored one, all NaNs being one.
-fn same_answer(x: f32, bits: u32) -> bool
-    ensures { λ r. ⌜ r ≡ sameAnswer x bits ⌝ }
-{
-    if x != x {
-        return bits == 0x7fc0_0000;
-    }
-    f32::to_bits(x) == bits
-}
-
-// 1 for a case that differs.
-fn missed(same: bool) -> usize
-    ensures { λ r. ⌜ (r ≡ cond same 0 1) × (r ≤ 1) ⌝ }
-{
-    if same { 0 } else { 1 }
-}
-
 // The record of a family that begins at `at`.
 fn record(family: u8, s: &[u8], at: usize) -> Step
     requires { ⌜ at < length (now s) ⌝ }
     ensures { λ r. ⌜ Stepped (now (s .entry)) at r ⌝ }
 {
-    if family == CURVES {
-        return curves::record(s, at);
-    }
-    damaged(at)
-}
-
-fn damaged(at: usize) -> Step
-    ensures { λ r. ⌜ (r .next ≡ at) × (r .cases ≡ 0) × (r .differ ≡ 0) ⌝ }
-{
-    Step {
-        next: at,
-        cases: 0,
-        differ: 0,
+    match family {
+        CURVES => sample_curves::record(s, at),
+        SHEETS => sample_formats::record(false, s, at),
+        BOOKS => sample_formats::record(true, s, at),
+        UVS => sample_shapes::uvs::record(s, at),
+        CORNERS => sample_shapes::corners::record(s, at),
+        _ => sample::damaged(at),
     }
 }
 
@@ -128,15 +104,24 @@ fn say_count(n: usize, what: &[u8]) {
     say(what);
 }
 
+fn say_family(family: u8) {
+    match family {
+        CURVES => say(b"curves"),
+        SHEETS => say(b"sheets"),
+        BOOKS => say(b"books"),
+        UVS => say(b"uvs"),
+        CORNERS => say(b"corners"),
+        _ => say(b"unknown"),
+    }
+}
+
 // One line: a whole sample's family and counts.
 fn say_tally(family: u8, t: Tally) {
     if !t.whole {
         say(b"no whole sample\n");
         return;
     }
-    if family == CURVES {
-        say(b"curves");
-    }
+    say_family(family);
     say_count(t.cases, b" cases");
     say_count(t.differ, b" differ\n");
 }

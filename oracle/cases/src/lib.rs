@@ -4,5 +4,9 @@
 
 pub mod bits;
 pub mod curves;
+pub mod format;
+pub mod geometry;
 pub mod random;
+pub mod readings;
 pub mod sample;
+pub mod sheets;

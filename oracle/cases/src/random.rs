@@ -1,6 +1,8 @@
 //! A small generator of numbers (splitmix64): the same seed gives the same
 //! cases on every machine.
 
+use crate::bits::EDGES;
+
 pub struct Random {
     state: u64,
 }
@@ -45,5 +47,14 @@ impl Random {
     /// A number in -n..n with three binary places, as an artist's are.
     pub fn tame(&mut self, n: usize) -> f32 {
         self.below(16 * n) as f32 / 8.0 - n as f32
+    }
+
+    /// A finite number: at an edge, as an artist's, or any.
+    pub fn number(&mut self) -> f32 {
+        match self.below(3) {
+            0 => self.pick(&EDGES),
+            1 => self.tame(512),
+            _ => self.finite(),
+        }
     }
 }

@@ -2,32 +2,51 @@
 //! seeds stand here, so the same bytes come out each time:
 //! `cargo run --release -p cases --bin store -- ../crates/vectors/data`.
 
-use cases::curves::sample::{Extent, stored, wrong_at_times};
+use cases::{curves, geometry, sheets};
 use std::path::PathBuf;
 
 fn main() {
-    let folder = std::env::args().nth(1).expect("store FOLDER");
+    let folder = PathBuf::from(std::env::args().nth(1).expect("store FOLDER"));
     let write = |name: &str, bytes: &[u8]| {
-        std::fs::write(PathBuf::from(&folder).join(name), bytes).unwrap();
+        std::fs::write(folder.join(name), bytes).unwrap();
         println!("{name}: {} bytes", bytes.len());
     };
-
-    let all = Extent {
-        curves: 512,
-        seed: 1,
+    let write_all = |name: &str, files: Vec<Vec<u8>>| {
+        for (i, bytes) in files.iter().enumerate() {
+            write(&format!("{name}_{i}"), bytes);
+        }
     };
-    let few = || Extent { curves: 8, seed: 2 };
-    write("curves", &stored(all, |_, answer| answer));
-    write("curves_wrong", &stored(few(), wrong_at_times));
+
+    write_all("curves", curves::sample::stored(1, 512, |_, answer| answer));
+    write_all("sheets", sheets::sample::sheets(1));
+    write_all("books", sheets::sample::books(1));
+    write_all(
+        "uvs",
+        geometry::sample::uv_files(1, 1000, |_, answer| answer),
+    );
+    write_all(
+        "corners",
+        geometry::sample::corner_files(1, 2000, |_, answer| answer),
+    );
+
+    // Ten answers of each family are not the Rust's, which must be noticed.
+    let wrong = curves::sample::stored(2, 8, curves::sample::wrong_at_times);
+    write_all("curves_wrong", wrong);
+    write_all("sheets_wrong", sheets::sample::wrong_sheets(2));
+    write_all("books_wrong", sheets::sample::wrong_books(2));
+    let wrong = geometry::sample::uv_files(2, 50, geometry::sample::wrong_uvs);
+    write_all("uvs_wrong", wrong);
+    let wrong = geometry::sample::corner_files(2, 50, geometry::sample::wrong_corners);
+    write_all("corners_wrong", wrong);
 
     // Files that are no whole sample, which must not pass for one.
-    let good = stored(few(), |_, answer| answer);
+    let good = &curves::sample::stored(2, 8, |_, answer| answer)[0];
     write("empty", &[]);
     write("head_cut", &good[..7]);
     write("cut", &good[..good.len() - 1]);
     write("longer", &[&good[..], &[0]].concat());
-    write("miscounted", &changed(&good, 4, 65));
-    write("unknown_family", &changed(&good, 0, 255));
+    write("miscounted", &changed(good, 4, 65));
+    write("unknown_family", &changed(good, 0, 255));
 }
 
 /// The bytes with one of them changed.

@@ -4,54 +4,48 @@
 
 use super::{Answer, Keys, answer, some};
 use crate::random::Random;
-use crate::sample::{CURVES, Sample};
+use crate::sample::{CURVES, Files, Record};
 
 /// Frames asked of each curve.
-const FRAMES: u8 = 8;
+const FRAMES: usize = 8;
 
-/// How many curves are stored, and from which seed.
-pub struct Extent {
-    pub curves: usize,
-    pub seed: u64,
-}
-
-/// The Rust's answers, each handed through `told` with its number.
-pub fn stored(extent: Extent, told: impl Fn(u32, Answer) -> Answer) -> Vec<u8> {
-    let mut random = Random::new(extent.seed);
-    let mut sample = Sample::new(CURVES);
-    for _ in 0..extent.curves {
+/// The Rust's answers on `count` curves, each handed through `told` with its
+/// number.
+pub fn stored(seed: u64, count: usize, told: impl Fn(usize, Answer) -> Answer) -> Vec<Vec<u8>> {
+    let mut random = Random::new(seed);
+    let mut files = Files::new(CURVES);
+    for curve in 0..count {
         let keys = some::keys(&mut random);
-        put_keys(&mut sample, &keys);
         let frames: Vec<f32> = (0..FRAMES)
             .map(|_| some::frame(&mut random, &keys))
             .collect();
-        frames.iter().for_each(|&frame| sample.f32(frame));
-        let curve = keys.curve();
-        for frame in frames {
-            let number = sample.case();
-            let answer = told(number, answer(&curve, frame));
-            sample.u32(answer.value);
-            sample.u16(answer.whole as u16);
-        }
+        files.put(record(&keys, &frames, |i, answer| {
+            told(curve * FRAMES + i, answer)
+        }));
     }
-    sample.finish()
+    files.finish()
 }
 
-fn put_keys(sample: &mut Sample, keys: &Keys) {
-    sample.u8(keys.kind);
-    sample.u8(keys.len() as u8);
-    sample.u8(FRAMES);
-    sample.u8(0);
+fn record(keys: &Keys, frames: &[f32], told: impl Fn(usize, Answer) -> Answer) -> Record {
+    let mut record = Record::default();
+    record.bytes(&[keys.kind, keys.len() as u8, frames.len() as u8, 0]);
     for i in 0..keys.len() {
-        sample.f32(keys.frames[i]);
-        sample.f32(keys.values[i]);
-        sample.f32(keys.slopes[i]);
+        record.floats(&[keys.frames[i], keys.values[i], keys.slopes[i]]);
     }
+    record.floats(frames);
+    let curve = keys.curve();
+    for (i, &frame) in frames.iter().enumerate() {
+        let answer = told(i, answer(&curve, frame));
+        record.u32(answer.value);
+        record.u16(answer.whole as u16);
+        record.case();
+    }
+    record
 }
 
 /// An answer that is not the Rust's in every seventh case, in turn of the value
 /// and of the whole value: 10 of 64 cases.
-pub fn wrong_at_times(number: u32, answer: Answer) -> Answer {
+pub fn wrong_at_times(number: usize, answer: Answer) -> Answer {
     match number % 14 {
         0 => Answer {
             value: answer.value ^ 1,

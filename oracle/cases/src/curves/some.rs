@@ -7,10 +7,16 @@ use crate::random::Random;
 
 const MOST_KEYS: usize = 6;
 
+/// A curve of some kind, with up to six keys.
 pub fn keys(random: &mut Random) -> Keys {
     let kind = random.pick(&[CONSTANT, STEP, HERMITE, HERMITE]);
-    let mut keys = Keys::of_kind(kind);
     let count = random.below(MOST_KEYS + 1);
+    keys_of(random, kind, count)
+}
+
+/// A curve of that kind and that many keys.
+pub fn keys_of(random: &mut Random, kind: u8, count: usize) -> Keys {
+    let mut keys = Keys::of_kind(kind);
     let frames = if kind == CONSTANT {
         vec![0.0; count]
     } else {
@@ -18,7 +24,11 @@ pub fn keys(random: &mut Random) -> Keys {
     };
     for frame in frames {
         let value = value(random, kind);
-        let slope = if kind == HERMITE { number(random) } else { 0.0 };
+        let slope = if kind == HERMITE {
+            random.number()
+        } else {
+            0.0
+        };
         keys.push(frame, value, slope);
     }
     keys
@@ -27,7 +37,7 @@ pub fn keys(random: &mut Random) -> Keys {
 /// A finite frame, most often near some key of the curve.
 pub fn frame(random: &mut Random, keys: &Keys) -> f32 {
     if keys.is_empty() || random.once_in(8) {
-        return number(random);
+        return random.number();
     }
     if keys.kind == CONSTANT {
         return constant_frame(random, keys.len());
@@ -66,7 +76,7 @@ fn rising(random: &mut Random, count: usize) -> Vec<f32> {
             0 => random.below(12) as f32,
             1 => random.pick(&EDGES),
             2 => random.tame(64),
-            _ => number(random),
+            _ => random.number(),
         })
         .collect();
     frames.sort_by(|a, b| a.partial_cmp(b).unwrap());
@@ -75,16 +85,8 @@ fn rising(random: &mut Random, count: usize) -> Vec<f32> {
 
 fn value(random: &mut Random, kind: u8) -> f32 {
     if kind != STEP {
-        return number(random);
+        return random.number();
     }
     let whole = random.below(65_536);
     random.pick(&[0, 1, 255, 256, 65_535, whole]) as f32
-}
-
-fn number(random: &mut Random) -> f32 {
-    match random.below(3) {
-        0 => random.pick(&EDGES),
-        1 => random.tame(512),
-        _ => random.finite(),
-    }
 }

@@ -4,7 +4,7 @@
 use cases::curves::{Keys, all_short, answer, some};
 use cases::random::Random;
 use compare::arguments::Arguments;
-use compare::probe::curve_answer;
+use compare::probe::curves;
 use compare::tally::Tally;
 
 /// Frames asked of each random curve.
@@ -30,6 +30,6 @@ fn main() {
 
 fn compare(tally: &mut Tally, keys: &Keys, frame: f32) {
     let rust = answer(&keys.curve(), frame);
-    let ours = curve_answer(keys, frame);
+    let ours = curves::answer(keys, frame);
     tally.add(rust, ours, || format!("{keys:?} at {frame:?}"));
 }

@@ -1,0 +1,2 @@
+-- Stored cases of curves.
+pub mod Curves

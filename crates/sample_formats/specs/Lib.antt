@@ -1,0 +1,2 @@
+-- Stored cases of sheets and books.
+pub mod Refused

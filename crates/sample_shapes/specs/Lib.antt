@@ -1,0 +1,3 @@
+-- Stored cases of UVs and of corners.
+pub mod Corners
+pub mod Uvs

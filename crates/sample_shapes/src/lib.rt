@@ -1,0 +1,3 @@
+// The families of UVs and of corners, refusals included.
+pub mod corners;
+pub mod uvs;

@@ -1,0 +1,37 @@
+//! Random cases of readings.
+
+use super::Case;
+use crate::format::sheet::Sheet;
+use crate::random::Random;
+use crate::sheets::{books, good};
+
+pub fn case(random: &mut Random) -> Case {
+    let size = books::size(random);
+    let book = books::book(random, size);
+    let size = good::size(random);
+    let sheet = good::sheet(random, size, &book);
+    let active = active(random, &sheet);
+    Case {
+        sheet,
+        book,
+        active,
+    }
+}
+
+/// Now and then nothing; else some animation, at a frame near some key.
+pub fn active(random: &mut Random, sheet: &Sheet) -> Option<(usize, f32)> {
+    if random.once_in(32) {
+        return None;
+    }
+    let animation = random.below(sheet.animations.len());
+    Some((animation, frame(random, sheet)))
+}
+
+fn frame(random: &mut Random, sheet: &Sheet) -> f32 {
+    if sheet.frames.is_empty() || random.once_in(4) {
+        return random.number();
+    }
+    let near = random.pick(&sheet.frames);
+    let frame = near + random.pick(&[0.0, 0.0, 0.5, -0.5, 1.0, 3.25]);
+    if frame.is_finite() { frame } else { near }
+}

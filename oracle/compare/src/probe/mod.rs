@@ -1,0 +1,6 @@
+//! Safe calls of the proved library `probe`. A slice goes as two arguments, its
+//! pointer and its length.
+
+pub mod curves;
+pub mod formats;
+pub mod shapes;
