@@ -1,1 +1,5 @@
+pub mod Keys
 pub mod Journal
+pub mod Player
+pub mod View
+pub mod Edit
