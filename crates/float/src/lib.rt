@@ -1,14 +1,46 @@
-// Floats: total casts, a clamp and a rounding to whole numbers, each bit for bit.
-ghost use mathlib.Core.Path.{_≡_};
-ghost use Prim.Native.Nat.{ℕ, _+_, _-_, _*_, _<_, _≤_, min};
-ghost use lib.Dec.{T};
-ghost use lib.Ieee.{toUnsigned, lt, fin};
-ghost use lib.IntN.{pos};
-ghost use mathlib.Core.Bool.{false};
-ghost use Rattle.float.specs.Clamp.{clampOf};
-ghost use Rattle.float.specs.Whole.{wholeOf};
+// Standard arithmetic on f32, bit for bit (document 01, "Standard arithmetic"): what Rust's f32 has and Rattle's lacks.
+// Every function is total: no value of an argument is ruled out, and a NaN is answered as the Rust answers it.
+mod turn;
 
-// Rust's f32::clamp, without its check of lo and hi.
+pub use turn::SinCos;
+pub use turn::radians;
+pub use turn::sin_cos;
+ghost use mathlib.Core.Path.{_≡_};
+ghost use mathlib.Core.Bool.{false};
+ghost use Prim.Native.Nat.{ℕ, min};
+ghost use lib.Dec.{T};
+ghost use lib.IntN.{pos};
+ghost use lib.Ieee.{binary32, toUnsigned, rem, lt, fin};
+ghost use Rattle.float.specs.Numbers.{finite, sameBits};
+ghost use Rattle.float.specs.Clamp.{clampOf, maxOf};
+ghost use Rattle.float.specs.Whole.{wholeOf};
+ghost use Rattle.float.specs.StepValue.{wholeIn16, stepValue};
+
+// The largest value of a u16, as a float.
+const LAST_U16: f32 = 65535.0;
+
+// Rust's f32::is_finite: neither a NaN nor an infinity.
+pub fn is_finite(x: f32) -> bool
+    ensures { λ r. ⌜ r ≡ finite x ⌝ }
+{
+    let infinity = f32::from_bits(0x7f80_0000);
+    (-infinity < x) & (x < infinity)
+}
+
+// Neither is a NaN, and they are the same bit for bit: +0 and -0 differ.
+pub fn same_bits(a: f32, b: f32) -> bool
+    ensures { λ r. ⌜ r ≡ sameBits a b ⌝ }
+{
+    if a != a {
+        return false;
+    }
+    if b != b {
+        return false;
+    }
+    f32::to_bits(a) == f32::to_bits(b)
+}
+
+// Rust's f32::clamp, without its check that lo is at most hi: where it is not, hi is the answer.
 pub fn clamp(x: f32, lo: f32, hi: f32) -> f32
     ensures { λ r. ⌜ r ≡ clampOf x lo hi ⌝ }
 {
@@ -20,6 +52,19 @@ pub fn clamp(x: f32, lo: f32, hi: f32) -> f32
         y = hi;
     }
     y
+}
+
+// Rust's f32::max: a NaN gives way to the other. Of two equal values it is the first, also of +0 and -0, where Rust leaves it open.
+pub fn max(a: f32, b: f32) -> f32
+    ensures { λ r. ⌜ r ≡ maxOf a b ⌝ }
+{
+    if a != a {
+        return b;
+    }
+    if a < b {
+        return b;
+    }
+    a
 }
 
 // Rust's `x as u64`: towards zero, held to the range, a NaN to 0.
@@ -45,7 +90,15 @@ pub fn cut_u16(x: f32) -> u16
     if n < 65535 { n as u16 } else { 65535 }
 }
 
-// `x as usize`, held to `last`.
+// Rust's `x as u8`.
+pub fn cut_u8(x: f32) -> u8
+    ensures { λ r. ⌜ r ≡ toUnsigned 8 x ⌝ }
+{
+    let n = cut_u64(x);
+    if n < 255 { n as u8 } else { 255 }
+}
+
+// Rust's `(x as usize).min(last)`.
 pub fn cut_index(x: f32, last: usize) -> usize
     ensures { λ r. ⌜ r ≡ min (toUnsigned 64 x) last ⌝ }
 {
@@ -63,7 +116,8 @@ fn whole_up(a: f32) -> f32
     k as f32
 }
 
-// Rust's f32::round: to the nearest whole number, a half away from zero; the sign stays.
+// Rust's f32::round: to the nearest whole number, a half away from zero; a zero keeps its sign.
+// From 2^23 on, in size, every f32 is whole.
 pub fn nearest_whole(x: f32) -> f32
     ensures { λ r. ⌜ r ≡ wholeOf x ⌝ }
 {
@@ -80,4 +134,26 @@ pub fn nearest_whole(x: f32) -> f32
         return x;
     }
     x
+}
+
+// Rust's `x % y`: exact, with the sign of x.
+pub fn remainder(x: f32, y: f32) -> f32
+    ensures { λ r. ⌜ r ≡ rem binary32 x y ⌝ }
+{
+    x % y
+}
+
+// x is a value that a Step key may hold: a whole number in 0..65,535, and not -0.
+pub fn is_whole16(x: f32) -> bool
+    ensures { λ r. ⌜ r ≡ wholeIn16 x ⌝ }
+{
+    same_bits(x, cut_u16(x) as f32)
+}
+
+// The value that a Step key takes where x is asked for.
+pub fn step_value(x: f32) -> f32
+    ensures { λ r. ⌜ r ≡ stepValue x ⌝ }
+{
+    let y = clamp(nearest_whole(x), 0.0, LAST_U16);
+    if y == 0.0 { 0.0 } else { y }
 }
