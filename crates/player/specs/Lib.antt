@@ -3,3 +3,4 @@ pub mod Journal
 pub mod Player
 pub mod View
 pub mod Edit
+pub mod Undo
