@@ -12,18 +12,9 @@ use Rattle.float.specs.Clamp.{clampOf, maxOf}
 use Rattle.float.specs.StepValue.{stepValue}
 use Rattle.sheet.specs.Sheet.{targetCount, contentAt, targetAt}
 use Rattle.curve.specs.declared.Key.{Key}
+use Rattle.curve.specs.Curve.{kindConstant, kindStep, kindHermite}
 use Rattle.player.specs.Keys.{Keys, keyAt, putKey}
 use Rattle.player.specs.Player.{none}
-
--- curve numbers
-abbrev pub constant : ℕ
-constant = 0
-
-abbrev pub step : ℕ
-step = 1
-
-abbrev pub hermite : ℕ
-hermite = 2
 
 -- what is asked of a key: a frame and a value, or a slope
 pub data Request : Type 0 where
@@ -68,7 +59,7 @@ clampedFrame s ks track key x = clampOf x (lowest s ks track key) (maxOf (highes
 -- row 9: the clamped frame is above the next key's, Constant apart
 unfoldable pub overtakes : List ℕ → Keys → ℕ → ℕ → Float → Bool
 overtakes s ks track key x =
-    not (eqb (curveOf s track) constant)
+    not (eqb (curveOf s track) kindConstant)
     && hasNext s track key
     && lt (keyAt ks (place s track key + 1) .frame) (clampedFrame s ks track key x)
 
@@ -76,8 +67,8 @@ overtakes s ks track key x =
 unfoldable pub edited : List ℕ → Keys → ℕ → ℕ → Request → Key
 edited s ks track key (keyTo x v) =
     record {
-      frame = cond (eqb (curveOf s track) constant) (keyAt ks (place s track key) .frame) (clampedFrame s ks track key x);
-      value = cond (eqb (curveOf s track) step) (stepValue v) v;
+      frame = cond (eqb (curveOf s track) kindConstant) (keyAt ks (place s track key) .frame) (clampedFrame s ks track key x);
+      value = cond (eqb (curveOf s track) kindStep) (stepValue v) v;
       slope = keyAt ks (place s track key) .slope;
     }
 edited s ks track key (slopeTo m) =
@@ -90,7 +81,7 @@ madeEdit s ks e = putKey ks (place s (e .track) (e .key)) (edited s ks (e .track
 -- rows 8 to 10
 unfoldable pub requestRefusal : List ℕ → Keys → ℕ → ℕ → Request → ℕ
 requestRefusal s ks track key (keyTo x v) = unless (finite x && finite v) 8 (unless (not (overtakes s ks track key x)) 9 0)
-requestRefusal s ks track key (slopeTo m) = unless (finite m) 8 (unless (eqb (curveOf s track) hermite) 10 0)
+requestRefusal s ks track key (slopeTo m) = unless (finite m) 8 (unless (eqb (curveOf s track) kindHermite) 10 0)
 
 -- rows 6 to 10: nothing active; the track is not the active animation's, or has no such key; and the request's own
 unfoldable pub editRefusal : List ℕ → ℕ → Keys → ℕ → ℕ → Request → ℕ

@@ -7,6 +7,7 @@ use lib.ListN.{getD, set, length, length-set}
 use lib.Seq.{getD-set-same, getD-set-other, set-set, set-getD}
 use lib.Ieee.{Float, nan}
 use Rattle.curve.specs.declared.Key.{Key}
+use Rattle.curve.specs.Keys as curve
 
 pub record Keys : Type 0 where
   pub frames : List Float
@@ -15,7 +16,7 @@ pub record Keys : Type 0 where
 
 -- the key at i
 unfoldable pub keyAt : Keys → ℕ → Key
-keyAt ks i = record { frame = getD (ks .frames) i nan; value = getD (ks .values) i nan; slope = getD (ks .slopes) i nan }
+keyAt ks i = curve.keyAt (ks .frames) (ks .values) (ks .slopes) i
 
 -- the keys with k at i
 unfoldable pub putKey : Keys → ℕ → Key → Keys
