@@ -93,24 +93,28 @@ whole-write j n e w =
 pub row-same : (j : Journal) (n : ℕ) (e : Entry) → Whole j → rowOf (withRow j n e) n ≡ e
 unfolding rowOf withRow
 row-same j n e w =
-    rw ( getD-set-same (j .track) (n % 128) (e .track) 0 (omega (arith, w .track))
-       , getD-set-same (j .key) (n % 128) (e .key) 0 (omega (arith, w .key))
-       , getD-set-same (j .«before_frame») (n % 128) (e .before .frame) nan (omega (arith, w .before-frame))
-       , getD-set-same (j .«before_value») (n % 128) (e .before .value) nan (omega (arith, w .before-value))
-       , getD-set-same (j .«before_slope») (n % 128) (e .before .slope) nan (omega (arith, w .before-slope))
-       , getD-set-same (j .«after_frame») (n % 128) (e .after .frame) nan (omega (arith, w .after-frame))
-       , getD-set-same (j .«after_value») (n % 128) (e .after .value) nan (omega (arith, w .after-value))
-       , getD-set-same (j .«after_slope») (n % 128) (e .after .slope) nan (omega (arith, w .after-slope)) )
+    rw (
+      getD-set-same (j .track) (n % 128) (e .track) 0 (omega (arith, w .track)),
+      getD-set-same (j .key) (n % 128) (e .key) 0 (omega (arith, w .key)),
+      getD-set-same (j .«before_frame») (n % 128) (e .before .frame) nan (omega (arith, w .before-frame)),
+      getD-set-same (j .«before_value») (n % 128) (e .before .value) nan (omega (arith, w .before-value)),
+      getD-set-same (j .«before_slope») (n % 128) (e .before .slope) nan (omega (arith, w .before-slope)),
+      getD-set-same (j .«after_frame») (n % 128) (e .after .frame) nan (omega (arith, w .after-frame)),
+      getD-set-same (j .«after_value») (n % 128) (e .after .value) nan (omega (arith, w .after-value)),
+      getD-set-same (j .«after_slope») (n % 128) (e .after .slope) nan (omega (arith, w .after-slope)),
+    )
 
 -- another row
 pub row-other : (j : Journal) (n k : ℕ) (e : Entry) → (k % 128 ≡ n % 128 → ⊥) → rowOf (withRow j n e) k ≡ rowOf j k
 unfolding rowOf withRow
 row-other j n k e d =
-    rw ( getD-set-other (j .track) (n % 128) (k % 128) (e .track) 0 d
-       , getD-set-other (j .key) (n % 128) (k % 128) (e .key) 0 d
-       , getD-set-other (j .«before_frame») (n % 128) (k % 128) (e .before .frame) nan d
-       , getD-set-other (j .«before_value») (n % 128) (k % 128) (e .before .value) nan d
-       , getD-set-other (j .«before_slope») (n % 128) (k % 128) (e .before .slope) nan d
-       , getD-set-other (j .«after_frame») (n % 128) (k % 128) (e .after .frame) nan d
-       , getD-set-other (j .«after_value») (n % 128) (k % 128) (e .after .value) nan d
-       , getD-set-other (j .«after_slope») (n % 128) (k % 128) (e .after .slope) nan d )
+    rw (
+      getD-set-other (j .track) (n % 128) (k % 128) (e .track) 0 d,
+      getD-set-other (j .key) (n % 128) (k % 128) (e .key) 0 d,
+      getD-set-other (j .«before_frame») (n % 128) (k % 128) (e .before .frame) nan d,
+      getD-set-other (j .«before_value») (n % 128) (k % 128) (e .before .value) nan d,
+      getD-set-other (j .«before_slope») (n % 128) (k % 128) (e .before .slope) nan d,
+      getD-set-other (j .«after_frame») (n % 128) (k % 128) (e .after .frame) nan d,
+      getD-set-other (j .«after_value») (n % 128) (k % 128) (e .after .value) nan d,
+      getD-set-other (j .«after_slope») (n % 128) (k % 128) (e .after .slope) nan d,
+    )
