@@ -31,3 +31,17 @@ sheetOk s = eqb (length s) 0
 
 unfoldable pub keysOk : List ℕ → List Float → List Float → List Float → Bool
 keysOk s fs vs ss = eqb (length fs) (length s)
+
+unfoldable pub contentCount : List ℕ → ℕ
+contentCount s = getD s 2 0
+
+unfoldable pub textureCount : List ℕ → ℕ
+textureCount s = getD s 8 0
+
+-- where the name of content c stands
+unfoldable pub contentNameAt : List ℕ → ℕ → ℕ
+contentNameAt s c = getD s c 0
+
+-- where texture name k stands
+unfoldable pub textureNameAt : List ℕ → ℕ → ℕ
+textureNameAt s k = getD s k 0

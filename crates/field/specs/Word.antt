@@ -1,0 +1,65 @@
+-- Eight bytes as one number: two fields are compared by words of eight bytes. Assumes nothing.
+use Prim.Native.Nat.{ℕ, _+_, _*_, _%_, _/_, _<_}
+use mathlib.Core.List.{List}
+use mathlib.Core.Bool.{Bool, true, false, _&&_, and-assoc}
+use mathlib.Core.Path.{_≡_, refl, sym, _∙_, ap}
+use native.Mathlib.Nat.{add-comm, add-assoc, add-zero}
+use native.Mathlib.Omega.{arith}
+use borrow.Author.Tests.{eq-eqb, ne-eqb, eqb-true, eqb-false}
+use lib.Arith.{digits-div, digits-mod}
+use lib.Dec.{eqb}
+use Rattle.laws.specs.Below.{allBelow}
+use Rattle.field.specs.Read.{byteAt, u16At, u32At}
+use Rattle.field.specs.Name.{sameByte, sameName}
+
+-- the eight bytes at i
+unfoldable pub wordAt : List ℕ → ℕ → ℕ
+wordAt s i = u32At s i + u32At s (i + 4) * 4294967296
+
+-- two numbers of two digits are equal when their digits are
+digit-pair : (m a b c d : ℕ) → a < m → b < m → eqb (a + c * m) (b + d * m) ≡ (eqb a b && eqb c d)
+digit-pair m a b c d p q = go (eqb a b) refl (eqb c d) refl
+  where
+    turned : a + c * m ≡ b + d * m → c * m + a ≡ d * m + b
+    turned h = add-comm (c * m) a ∙ h ∙ add-comm b (d * m)
+
+    ones : a + c * m ≡ b + d * m → a ≡ b
+    ones h = sym (digits-mod c p) ∙ ap (λ (n : ℕ). n % m) (turned h) ∙ digits-mod d q
+
+    tens : a + c * m ≡ b + d * m → c ≡ d
+    tens h = sym (digits-div c p) ∙ ap (λ (n : ℕ). n / m) (turned h) ∙ digits-div d q
+
+    go : (x : Bool) → eqb a b ≡ x → (y : Bool) → eqb c d ≡ y → eqb (a + c * m) (b + d * m) ≡ (x && y)
+    go true e true f = eq-eqb (a + c * m) (b + d * m) (rw (eqb-true a b e, eqb-true c d f))
+    go true e false f = ne-eqb _ _ (λ h. eqb-false c d f (tens h))
+    go false e y f = ne-eqb _ _ (λ h. eqb-false a b e (ones h))
+
+-- s holds bytes
+abbrev pub Bytes : List ℕ → Type 0
+Bytes s = (k : ℕ) → byteAt s k < 256
+
+module _ (s t : List ℕ) (b : Bytes s) (d : Bytes t) where
+  same-16 : (i j : ℕ) → eqb (u16At s i) (u16At t j) ≡ (eqb (byteAt s i) (byteAt t j) && eqb (byteAt s (i + 1)) (byteAt t (j + 1)))
+  unfolding u16At
+  same-16 i j = digit-pair 256 (byteAt s i) (byteAt t j) (byteAt s (i + 1)) (byteAt t (j + 1)) (b i) (d j)
+
+  small-16 : (l : List ℕ) → Bytes l → (i : ℕ) → u16At l i < 65536
+  unfolding u16At
+  small-16 l h i = omega (arith, h i, h (i + 1))
+
+  same-32 : (i j : ℕ) → eqb (u32At s i) (u32At t j) ≡ (eqb (u16At s i) (u16At t j) && eqb (u16At s (i + 2)) (u16At t (j + 2)))
+  unfolding u32At
+  same-32 i j = digit-pair 65536 (u16At s i) (u16At t j) (u16At s (i + 2)) (u16At t (j + 2)) (small-16 s b i) (small-16 t d j)
+
+  small-32 : (l : List ℕ) → Bytes l → (i : ℕ) → u32At l i < 4294967296
+  unfolding u32At
+  small-32 l h i = omega (arith, small-16 l h i, small-16 l h (i + 2))
+
+  same-64 : (i j : ℕ) → eqb (wordAt s i) (wordAt t j) ≡ (eqb (u32At s i) (u32At t j) && eqb (u32At s (i + 4)) (u32At t (j + 4)))
+  unfolding wordAt
+  same-64 i j = digit-pair 4294967296 (u32At s i) (u32At t j) (u32At s (i + 4)) (u32At t (j + 4)) (small-32 s b i) (small-32 t d j)
+
+  -- so two fields are one name when their three words are
+  pub same-words : (i j : ℕ) → sameName s i t j ≡ (eqb (wordAt s i) (wordAt t j) && (eqb (wordAt s (i + 8)) (wordAt t (j + 8)) && eqb (wordAt s (i + 16)) (wordAt t (j + 16))))
+  unfolding sameName sameByte allBelow
+  same-words i j = simp (same-64, same-32, same-16, and-assoc, add-assoc, add-zero)

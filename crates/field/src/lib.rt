@@ -1,0 +1,189 @@
+// Fields of a lent slice of bytes: little-endian numbers, finite floats, and names of 24 bytes.
+use laws::Found;
+ghost use mathlib.Core.Path.{_≡_};
+ghost use mathlib.Core.Bool.{true};
+ghost use Prim.Native.Nat.{ℕ, _+_, _-_, _*_, _<_, _≤_};
+ghost use lib.ListN.{length};
+ghost use Rattle.field.specs.Read.{byteAt, u16At, u32At, floatAt, finiteAt, finiteRow};
+ghost use Rattle.field.specs.Name.{nameAt, sameName, zeroByte, emptyName, otherName, nameOk, namesOk, findName, Fields};
+ghost use Rattle.field.specs.Word.{wordAt};
+ghost use Rattle.laws.specs.Below.{allBelow};
+
+fn wide(x: u8) -> usize
+    ensures { λ r. ⌜ (r ≡ x) × (r < 256) ⌝ }
+{
+    x as usize
+}
+
+// A byte. The bound is part of the contract, so that sums of fields close at the caller.
+pub fn byte_at(s: &[u8], at: usize) -> usize
+    requires { ⌜ at < length (now s) ⌝ }
+    ensures { λ r. ⌜ (r ≡ byteAt (now (s .entry)) at) × (r < 256) ⌝ }
+{
+    wide(s[at])
+}
+
+// A u16, with its bound likewise.
+pub fn u16_at(s: &[u8], at: usize) -> usize
+    requires { ⌜ at + 1 < length (now s) ⌝ }
+    ensures { λ r. ⌜ (r ≡ u16At (now (s .entry)) at) × (r < 65536) ⌝ }
+{
+    byte_at(s, at) + byte_at(s, at + 1) * 256
+}
+
+pub fn u32_at(s: &[u8], at: usize) -> u32
+    requires { ⌜ at + 3 < length (now s) ⌝ }
+    ensures { λ r. ⌜ r ≡ u32At (now (s .entry)) at ⌝ }
+{
+    (u16_at(s, at) + u16_at(s, at + 2) * 65536) as u32
+}
+
+// Whether an f32 is finite, seen from its pattern: the exponent is not all ones.
+pub fn finite_at(s: &[u8], at: usize) -> bool
+    requires { ⌜ at + 3 < length (now s) ⌝ }
+    ensures { λ r. ⌜ r ≡ finiteAt (now (s .entry)) at ⌝ }
+{
+    u32_at(s, at) % 2147483648 / 8388608 != 255
+}
+
+pub fn f32_at(s: &[u8], at: usize) -> f32
+    requires { ⌜ (at + 3 < length (now s)) × (finiteAt (now s) at ≡ true) ⌝ }
+    ensures { λ r. ⌜ r ≡ floatAt (now (s .entry)) at ⌝ }
+{
+    f32::from_bits(u32_at(s, at))
+}
+
+// Whether n f32s in a row are finite. No early way out: the loop then goes several at a time.
+pub fn finite_row(s: &[u8], at: usize, n: usize) -> bool
+    requires { ⌜ at + n * 4 ≤ length (now s) ⌝ }
+    ensures { λ r. ⌜ r ≡ finiteRow (now (s .entry)) at n ⌝ }
+{
+    let mut ok = true;
+    let mut k = 0;
+    while k < n {
+        ok = ok & finite_at(s, at + k * 4);
+        k += 1;
+    }
+    ok
+}
+
+// ---- names
+
+pub fn name_at<'a>(s: &'a [u8], at: usize) -> &'a [u8]
+    requires { ⌜ at + 24 ≤ length (now s) ⌝ }
+    ensures { λ r. ⌜ now r ≡ nameAt (now (s .entry)) at ⌝ }
+{
+    &s[at..at + 24]
+}
+
+fn zero_byte(s: &[u8], at: usize, k: usize) -> bool
+    requires { ⌜ at + k < length (now s) ⌝ }
+    ensures { λ r. ⌜ r ≡ zeroByte (now (s .entry)) at k ⌝ }
+{
+    byte_at(s, at + k) == 0
+}
+
+pub fn empty_name(s: &[u8], at: usize) -> bool
+    requires { ⌜ at + 24 ≤ length (now s) ⌝ }
+    ensures { λ r. ⌜ r ≡ emptyName (now (s .entry)) at ⌝ }
+{
+    let mut k = 0;
+    while k < 24 {
+        if zero_byte(s, at, k) {
+            k += 1;
+        } else {
+            return false;
+        }
+    }
+    true
+}
+
+// Eight bytes as one number: names are compared by words, since labels often begin alike.
+fn word_at(s: &[u8], at: usize) -> u64
+    requires { ⌜ at + 8 ≤ length (now s) ⌝ }
+    ensures { λ r. ⌜ r ≡ wordAt (now (s .entry)) at ⌝ }
+{
+    (u32_at(s, at) as u64) + (u32_at(s, at + 4) as u64) * 4294967296
+}
+
+// Whether two fields hold one name.
+pub fn same_name(s: &[u8], i: usize, t: &[u8], j: usize) -> bool
+    requires { ⌜ (i + 24 ≤ length (now s)) × (j + 24 ≤ length (now t)) ⌝ }
+    ensures { λ r. ⌜ r ≡ sameName (now (s .entry)) i (now (t .entry)) j ⌝ }
+{
+    if word_at(s, i) != word_at(t, j) {
+        return false;
+    }
+    if word_at(s, i + 8) != word_at(t, j + 8) {
+        return false;
+    }
+    word_at(s, i + 16) == word_at(t, j + 16)
+}
+
+fn fresh_name(s: &[u8], base: usize, stride: usize, i: usize) -> bool
+    requires { ⌜ Fields (now s) base stride (i + 1) ⌝ }
+    ensures { λ r. ⌜ r ≡ allBelow i (otherName (now (s .entry)) base stride i) ⌝ }
+{
+    let place = base + i * stride;
+    let mut j = 0;
+    while j < i {
+        if same_name(s, base + j * stride, s, place) {
+            return false;
+        }
+        j += 1;
+    }
+    true
+}
+
+fn name_ok(s: &[u8], base: usize, stride: usize, i: usize) -> bool
+    requires { ⌜ Fields (now s) base stride (i + 1) ⌝ }
+    ensures { λ r. ⌜ r ≡ nameOk (now (s .entry)) base stride i ⌝ }
+{
+    !empty_name(s, base + i * stride) & fresh_name(s, base, stride, i)
+}
+
+// Whether the names of a table's rows are distinct and not empty.
+pub fn names_ok(s: &[u8], base: usize, stride: usize, rows: usize) -> bool
+    requires { ⌜ Fields (now s) base stride rows ⌝ }
+    ensures { λ r. ⌜ r ≡ namesOk (now (s .entry)) base stride rows ⌝ }
+{
+    let mut i = 0;
+    while i < rows {
+        if name_ok(s, base, stride, i) {
+            i += 1;
+        } else {
+            return false;
+        }
+    }
+    true
+}
+
+// The first row of a table of names that has the name at `at` of another slice: the labelled search that stands for a HashMap.
+// `next` is counted at the head, so that a mismatch only leaves the row.
+pub fn find_name(
+    table: &[u8],
+    base: usize,
+    stride: usize,
+    rows: usize,
+    names: &[u8],
+    at: usize,
+) -> Found
+    requires { ⌜ Fields (now table) base stride rows × (at + 24 ≤ length (now names)) ⌝ }
+    ensures { λ r. ⌜ r ≡ findName (now (table .entry)) base stride rows (now (names .entry)) at ⌝ }
+{
+    let mut next = 0;
+    'rows: while next < rows {
+        let i = next;
+        next += 1;
+        let place = base + i * stride;
+        let mut k = 0;
+        'bytes: while k < 24 {
+            if table[place + k] != names[at + k] {
+                continue 'rows;
+            }
+            k += 1;
+        }
+        return Found::At(i);
+    }
+    Found::Nothing
+}

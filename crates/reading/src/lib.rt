@@ -1,0 +1,54 @@
+// What an animation at a frame does to the panes and materials of a book (document 01, "Channels").
+
+use book::Vector2f;
+use book::Vector3f;
+
+// A target's family, by its four-letter code.
+pub enum Family {
+    PaneSrt,
+    Visibility,
+    VertexColor,
+    TextureSrt,
+    TexturePattern,
+    IndirectSrt,
+    AlphaCompare,
+    MaterialColor,
+    Other,
+}
+
+// The row of the book that a content reaches.
+pub enum Reached {
+    Pane(usize),
+    Material(usize),
+    Nothing,
+}
+
+// The active animation and its frame, or nothing.
+pub enum Active {
+    Nothing,
+    At(usize, f32),
+}
+
+// What one channel reads: no override, a number, shown or hidden, a row of the sheet's texture names, a colour level.
+pub enum Reading {
+    Nothing,
+    Number(f32),
+    Shown(bool),
+    Row(u16),
+    Level(u8),
+}
+
+// The Rust's ResolvedPaneTransform.
+pub struct Transform {
+    pub translation: Vector3f,
+    pub rotation: Vector3f,
+    pub scale: Vector2f,
+    pub size: Vector2f,
+}
+
+// What the cascade gives a pane: whether it is shown, its alpha, and the influence that it hands its children.
+pub struct Cascaded {
+    pub visible: bool,
+    pub alpha: f32,
+    pub influence: f32,
+}
