@@ -12,7 +12,8 @@ use lib.Ieee.{Float, ofBits}
 use Rattle.laws.specs.Refusals.{unless, pass, passed}
 use Rattle.laws.specs.Tests.{and-2}
 use Rattle.float.specs.Numbers.{finite, zero'}
-use Rattle.sheet.specs.Sheet.{sheetOk, animationCount}
+use Rattle.sheet.specs.Sizes.{animationCount}
+use Rattle.sheet.specs.Sheet.{sheetOk}
 use Rattle.player.specs.declared.Player.{Player}
 use Rattle.player.specs.declared.Tick.the-variants.{Idle}
 use Rattle.player.specs.declared.journal.Entry.{Entry}

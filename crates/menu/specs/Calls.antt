@@ -8,7 +8,8 @@ use lib.ListN.{length}
 use lib.Ieee.{Float}
 use Rattle.laws.specs.Refusals.{unless}
 use Rattle.float.specs.Numbers.{finite}
-use Rattle.sheet.specs.Sheet.{sheetOk, animationCount, keyCount}
+use Rattle.sheet.specs.Sizes.{animationCount, keyCount}
+use Rattle.sheet.specs.Sheet.{sheetOk}
 use Rattle.player.specs.declared.Player.{Player}
 use Rattle.player.specs.declared.Tick.{Tick}
 use Rattle.player.specs.declared.Tick.the-variants.{Idle}

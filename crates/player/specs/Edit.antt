@@ -10,7 +10,8 @@ use Rattle.float.specs.Numbers.{#, zero', _⊕_, _⊖_, finite}
 use Rattle.float.specs.Grow.{hundredth}
 use Rattle.float.specs.Clamp.{clampOf, maxOf}
 use Rattle.float.specs.StepValue.{stepValue}
-use Rattle.sheet.specs.Sheet.{targetCount, contentAt, targetAt}
+use Rattle.sheet.specs.Sizes.{targetCount}
+use Rattle.sheet.specs.Rows.{contentRow, targetRow}
 use Rattle.curve.specs.declared.Key.{Key}
 use Rattle.curve.specs.Curve.{kindConstant, kindStep, kindHermite}
 use Rattle.player.specs.Keys.{Keys, keyAt, putKey}
@@ -30,21 +31,21 @@ pub record Edit : Type 0 where
 
 -- the place of a track's key among all keys
 unfoldable pub place : List ℕ → ℕ → ℕ → ℕ
-place s track key = targetAt s track .first + key
+place s track key = targetRow s track .first + key
 
 unfoldable pub curveOf : List ℕ → ℕ → ℕ
-curveOf s track = targetAt s track .curve
+curveOf s track = targetRow s track .curve
 
 -- the track is one of the animation's
 unfoldable pub trackIn : List ℕ → ℕ → ℕ → Bool
-trackIn s animation track = ltb track (targetCount s) && eqb (contentAt s (targetAt s track .content) .animation) animation
+trackIn s animation track = ltb track (targetCount s) && eqb (contentRow s (targetRow s track .content) .animation) animation
 
 unfoldable pub keyIn : List ℕ → ℕ → ℕ → Bool
-keyIn s track key = ltb key (targetAt s track .count)
+keyIn s track key = ltb key (targetRow s track .count)
 
 -- there is a next key in the track
 unfoldable pub hasNext : List ℕ → ℕ → ℕ → Bool
-hasNext s track key = ltb (key + 1) (targetAt s track .count)
+hasNext s track key = ltb (key + 1) (targetRow s track .count)
 
 -- A key edit clamps to previous + 0.01 (key 0: 0.0) and next − 0.01 (last: f32 maximum), the lower bound winning.
 unfoldable pub lowest : List ℕ → Keys → ℕ → ℕ → Float

@@ -6,7 +6,8 @@ use lib.Dec.{eqb, leb, ltb}
 use lib.Ieee.{Float}
 use Rattle.float.specs.Numbers.{zero', finite}
 use Rattle.laws.specs.Below.{allBelow}
-use Rattle.sheet.specs.Sheet.{animationCount, targetCount, targetAt}
+use Rattle.sheet.specs.Sizes.{animationCount, targetCount}
+use Rattle.sheet.specs.Rows.{targetRow}
 use Rattle.player.specs.declared.Player.{Player}
 use Rattle.player.specs.declared.journal.Entry.{Entry}
 use Rattle.player.specs.declared.journal.Journal.{Journal}
@@ -46,7 +47,7 @@ selectionOk s selection = eqb selection none || ltb selection (animationCount s)
 
 -- an entry names a track and one of its keys
 unfoldable pub entryOk : List ℕ → Entry → Bool
-entryOk s e = ltb (e .track) (targetCount s) && ltb (e .key) (targetAt s (e .track) .count)
+entryOk s e = ltb (e .track) (targetCount s) && ltb (e .key) (targetRow s (e .track) .count)
 
 -- the used row number i: the rows of the last `reach` standing edits and of the redo list, which come right after them
 unfoldable pub usedOk : List ℕ → Journal → ℕ → ℕ → Bool

@@ -7,7 +7,8 @@ use lib.Dec.{eqb, ltb}
 use lib.IntN.{pos}
 use lib.Ieee.{Float, binary32, le, lt, rem, ofInt}
 use Rattle.float.specs.Numbers.{zero', _⊕_, _⊗_}
-use Rattle.sheet.specs.Sheet.{animationCount, animationAt}
+use Rattle.sheet.specs.Sizes.{animationCount}
+use Rattle.sheet.specs.Rows.{animationRow}
 use Rattle.player.specs.declared.Player.{Player}
 use Rattle.player.specs.declared.Tick.{Tick}
 use Rattle.player.specs.declared.Tick.the-variants.{Idle, Running, Ended, Next}
@@ -67,11 +68,11 @@ tickSum v dt fps = v .frame ⊕ dt ⊗ fps
 
 -- the active animation's frame count
 unfoldable pub countOf : List ℕ → View → Float
-countOf s v = ofInt binary32 (pos (animationAt s (v .selection) .frames))
+countOf s v = ofInt binary32 (pos (animationRow s (v .selection) .frames))
 
 -- at the frame count or past it, a looping animation of at least a frame goes on from the remainder, and any other ends at its frame count
 unfoldable pub wraps : List ℕ → View → Bool
-wraps s v = animationAt s (v .selection) .looping && lt zero' (countOf s v)
+wraps s v = animationRow s (v .selection) .looping && lt zero' (countOf s v)
 
 unfoldable pub tickFrame : List ℕ → View → Float → Float
 tickFrame s v sum = cond (le (countOf s v) sum) (cond (wraps s v) (rem binary32 sum (countOf s v)) (countOf s v)) sum
@@ -93,5 +94,5 @@ tickView s dt fps v =
 unfoldable pub tickAnswer : List ℕ → Float → Float → View → Tick
 tickAnswer s dt fps v =
     pickTick (ticks v)
-    (pickTick (tickEnds s v (tickSum v dt fps)) (pickTick (animationAt s (v .selection) .next) Next Ended) Running)
+    (pickTick (tickEnds s v (tickSum v dt fps)) (pickTick (animationRow s (v .selection) .next) Next Ended) Running)
     Idle

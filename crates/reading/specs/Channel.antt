@@ -7,7 +7,8 @@ use lib.Dec.{eqb, ltb}
 use Rattle.laws.specs.declared.Found.{Found}
 use Rattle.laws.specs.declared.Found.the-variants as found
 use Rattle.field.specs.Name.{findName}
-use Rattle.sheet.specs.Sheet.{contentCount, contentAt, contentNameAt, targetAt}
+use Rattle.sheet.specs.Sizes.{contentCount, contentsAt}
+use Rattle.sheet.specs.Rows.{contentRow, targetRow}
 use Rattle.book.specs.Book.{paneCount, materialCount, panesAt, materialsAt}
 use Rattle.reading.specs.declared.Family.{Family}
 use Rattle.reading.specs.declared.Family.the-variants.{PaneSrt, Visibility, VertexColor, TextureSrt, TexturePattern, IndirectSrt, AlphaCompare, MaterialColor, Other}
@@ -99,20 +100,20 @@ asMaterial found.Nothing = reached.Nothing
 
 -- the pane with the content's name as its label, and the material of its name
 unfoldable pub paneNamed : List ℕ → List ℕ → ℕ → Found
-paneNamed s b c = findName b (panesAt b) 72 (paneCount b) s (contentNameAt s c)
+paneNamed s b c = findName b (panesAt b) 72 (paneCount b) s (contentsAt s + c * 28 + 4)
 
 unfoldable pub materialNamed : List ℕ → List ℕ → ℕ → Found
-materialNamed s b c = findName b (materialsAt b) 156 (materialCount b) s (contentNameAt s c)
+materialNamed s b c = findName b (materialsAt b) 156 (materialCount b) s (contentsAt s + c * 28 + 4)
 
 -- content types: 0 Pane and 3 PaneExt reach the pane, 1 Material the material, any other nothing
 unfoldable pub contentReach : List ℕ → List ℕ → ℕ → Reached
 contentReach s b c =
-    cond (eqb (contentAt s c .kind) 0 || eqb (contentAt s c .kind) 3) (asPane (paneNamed s b c))
-    (cond (eqb (contentAt s c .kind) 1) (asMaterial (materialNamed s b c)) reached.Nothing)
+    cond (eqb (contentRow s c .kind) 0 || eqb (contentRow s c .kind) 3) (asPane (paneNamed s b c))
+    (cond (eqb (contentRow s c .kind) 1) (asMaterial (materialNamed s b c)) reached.Nothing)
 
 -- the same where the content is one of the animation's, and nothing where it isn't
 unfoldable pub activeReach : List ℕ → List ℕ → ℕ → ℕ → Reached
-activeReach s b a c = cond (ltb c (contentCount s)) (cond (eqb (contentAt s c .animation) a) (contentReach s b c) reached.Nothing) reached.Nothing
+activeReach s b a c = cond (ltb c (contentCount s)) (cond (eqb (contentRow s c .animation) a) (contentReach s b c) reached.Nothing) reached.Nothing
 
 -- ---- targets
 
@@ -134,4 +135,4 @@ address b reached.Nothing f raw layer = found.Nothing
 -- the channel that target t addresses while animation a is active
 unfoldable pub targetChannel : List ℕ → List ℕ → ℕ → ℕ → Found
 targetChannel s b a t =
-    address b (activeReach s b a (targetAt s t .content)) (familyOf (targetAt s t .code)) (targetAt s t .raw) (targetAt s t .layer)
+    address b (activeReach s b a (targetRow s t .content)) (familyOf (targetRow s t .code)) (targetRow s t .raw) (targetRow s t .layer)

@@ -13,7 +13,8 @@ use Rattle.laws.specs.declared.Found.the-variants as found
 use Rattle.float.specs.Numbers.{#, zero', one', _⊘_}
 use Rattle.float.specs.Clamp.{clampOf}
 use Rattle.float.specs.Whole.{wholeOf}
-use Rattle.sheet.specs.Sheet.{targetCount, textureCount, targetAt}
+use Rattle.sheet.specs.Sizes.{targetCount, textureCount}
+use Rattle.sheet.specs.Rows.{targetRow}
 use Rattle.curve.specs.Curve.{evalPart, evalPartStepU16}
 use Rattle.reading.specs.Channel.{familyOf, targetChannel, channelCount}
 use Rattle.reading.specs.declared.Family.{Family}
@@ -29,10 +30,10 @@ full = # 0x437f_0000
 
 -- the target's curve at x, plain and as u16
 unfoldable pub valueAt : List ℕ → List Float → List Float → List Float → Float → ℕ → Float
-valueAt s fs vs ss x t = evalPart (targetAt s t .curve) (targetAt s t .first) (targetAt s t .count) fs vs ss x
+valueAt s fs vs ss x t = evalPart (targetRow s t .curve) (targetRow s t .first) (targetRow s t .count) fs vs ss x
 
 unfoldable pub value16At : List ℕ → List Float → List Float → List Float → Float → ℕ → ℕ
-value16At s fs vs ss x t = evalPartStepU16 (targetAt s t .curve) (targetAt s t .first) (targetAt s t .count) fs vs ss x
+value16At s fs vs ss x t = evalPartStepU16 (targetRow s t .curve) (targetRow s t .first) (targetRow s t .count) fs vs ss x
 
 -- a colour's level: nearest whole held to 0..255, NaN to 0
 unfoldable pub levelOf : Float → ℕ
@@ -52,7 +53,7 @@ readAs family.MaterialColor v n x = Level (levelOf v)
 readAs family.Other v n x = Nothing
 
 unfoldable pub targetReading : List ℕ → List Float → List Float → List Float → Float → ℕ → Reading
-targetReading s fs vs ss x t = readAs (familyOf (targetAt s t .code)) (valueAt s fs vs ss x t) (value16At s fs vs ss x t) (textureCount s)
+targetReading s fs vs ss x t = readAs (familyOf (targetRow s t .code)) (valueAt s fs vs ss x t) (value16At s fs vs ss x t) (textureCount s)
 
 -- ---- the last-target rule
 

@@ -6,7 +6,7 @@ use lib.IntN.{pos}
 use lib.Ieee.{Float, binary32, ofInt}
 use Rattle.float.specs.Numbers.{_⊘_}
 use Rattle.field.specs.Name.{nameAt}
-use Rattle.sheet.specs.Sheet.{textureNameAt}
+use Rattle.sheet.specs.Rows.{textureName}
 use Rattle.book.specs.Book.{paneAt, srtAt, slotNameAt}
 use Rattle.book.specs.declared.Srt.{Srt}
 use Rattle.reading.specs.Channel.{ofPane, ofMaterial}
@@ -83,7 +83,7 @@ module _ (s b : List ℕ) (fs vs ss : List Float) (a : Active) where
   nameFor Nothing m slot = nameAt b (slotNameAt b m slot)
   nameFor (Number v) m slot = nameAt b (slotNameAt b m slot)
   nameFor (Shown x) m slot = nameAt b (slotNameAt b m slot)
-  nameFor (Row k) m slot = nameAt s (textureNameAt s k)
+  nameFor (Row k) m slot = textureName s k
   nameFor (Level l) m slot = nameAt b (slotNameAt b m slot)
 
   unfoldable pub textureOf : ℕ → ℕ → List ℕ

@@ -1,47 +1,62 @@
-use Prim.Native.Nat.{ℕ, _+_, _*_}
-use mathlib.Core.Bool.{Bool, true}
+-- What a sheet is, its key rules apart: row 1 of the table in document 01, "What a call declines". In the order of document 01, "Sheet and book".
+-- Definitions only.
+use Prim.Native.Nat.{ℕ, _+_, _-_, _*_}
 use mathlib.Core.List.{List}
-use lib.ListN.{getD, length}
-use lib.Dec.{eqb, leb}
-use lib.Ieee.{Float}
-use Rattle.sheet.specs.declared.Animation.{Animation}
-use Rattle.sheet.specs.declared.Content.{Content}
-use Rattle.sheet.specs.declared.Target.{Target}
+use mathlib.Core.Bool.{Bool, _&&_, _||_}
+use lib.ListN.{length}
+use lib.Dec.{leb, ltb, eqb}
+use Rattle.laws.specs.Below.{allBelow}
+use Rattle.laws.specs.Sum.{sumBelow}
+use Rattle.field.specs.Read.{byteAt, u16At}
+use Rattle.field.specs.Name.{emptyName}
+use Rattle.sheet.specs.Sizes.{animationCount, contentCount, targetCount, keyCount, textureCount, contentsAt, targetsAt}
+use Rattle.sheet.specs.Rows.{contentAt, targetAt}
 
-unfoldable pub animationCount : List ℕ → ℕ
-animationCount s = getD s 0 0
+-- A animations 1..8, C contents 0..64, T targets 0..256, K keys 0..2,048, X textures 0..64, and zero
+unfoldable pub sizesOk : List ℕ → Bool
+sizesOk s =
+    leb 1 (animationCount s) && leb (animationCount s) 8 && leb (contentCount s) 64 && leb (targetCount s) 256 && leb (keyCount s) 2048 &&
+    leb (textureCount s) 64 && eqb (u16At s 10) 0
 
-unfoldable pub targetCount : List ℕ → ℕ
-targetCount s = getD s 4 0
+-- length 12 + 28A + 28C + 14T + 24X + 12K
+unfoldable pub lengthOk : List ℕ → Bool
+lengthOk s = eqb (length s) (12 + animationCount s * 28 + contentCount s * 28 + targetCount s * 14 + textureCount s * 24 + keyCount s * 12)
 
-unfoldable pub keyCount : List ℕ → ℕ
-keyCount s = getD s 6 0
+-- animation i: looping 0/1, next present 0/1, next name all zero if absent
+unfoldable pub animationOk : List ℕ → ℕ → Bool
+animationOk s i =
+    leb (byteAt s (12 + i * 28 + 2)) 1 && leb (byteAt s (12 + i * 28 + 3)) 1 &&
+    (eqb (byteAt s (12 + i * 28 + 3)) 1 || emptyName s (12 + i * 28 + 4))
 
-unfoldable pub animationAt : List ℕ → ℕ → Animation
-animationAt s i = record { frames = getD s i 0; looping = true; next = true }
+-- content i, where the contents start at `base` and there are a animations: type 0..4, zero u16; animation numbers are below a and never
+-- fall (row 0 is held against itself)
+unfoldable pub contentOk : List ℕ → ℕ → ℕ → ℕ → Bool
+contentOk s base a i =
+    leb (contentAt s (base + i * 28) .kind) 4 && eqb (u16At s (base + i * 28 + 2)) 0 && ltb (contentAt s (base + i * 28) .animation) a &&
+    leb (contentAt s (base + (i - 1) * 28) .animation) (contentAt s (base + i * 28) .animation)
 
-unfoldable pub contentAt : List ℕ → ℕ → Content
-contentAt s i = record { animation = getD s i 0; kind = 0 }
+-- target i, where the targets start at `base`, there are c contents, and its first key is f: curve 0..2, zero u8; content numbers are
+-- below c and never fall. Layer, raw and code are any.
+unfoldable pub targetFrom : List ℕ → ℕ → ℕ → ℕ → ℕ → Bool
+targetFrom s base c i f =
+    leb (targetAt s (base + i * 14) .curve) 2 && eqb (byteAt s (base + i * 14 + 9)) 0 && ltb (targetAt s (base + i * 14) .content) c &&
+    leb (targetAt s (base + (i - 1) * 14) .content) (targetAt s (base + i * 14) .content) && eqb (targetAt s (base + i * 14) .first) f
 
-unfoldable pub targetAt : List ℕ → ℕ → Target
-targetAt s i = record { content = getD s i 0; layer = 0; raw = 0; code = 0; curve = getD s i 0; first = getD s i 0; count = getD s i 0 }
+-- the key count of target i
+unfoldable pub keysOf : List ℕ → ℕ → ℕ → ℕ
+keysOf s base i = targetAt s (base + i * 14) .count
 
+-- first key is the sum of the earlier counts
+unfoldable pub targetOk : List ℕ → ℕ → ℕ → ℕ → Bool
+targetOk s base c i = targetFrom s base c i (sumBelow i (keysOf s base))
+
+-- all counts sum to k
+unfoldable pub targetsOk : List ℕ → ℕ → ℕ → ℕ → ℕ → Bool
+targetsOk s base c n k = allBelow n (targetOk s base c) && eqb (sumBelow n (keysOf s base)) k
+
+-- Texture names are any bytes, so nothing is asked of them.
 unfoldable pub sheetOk : List ℕ → Bool
-sheetOk s = eqb (length s) 0
-
-unfoldable pub keysOk : List ℕ → List Float → List Float → List Float → Bool
-keysOk s fs vs ss = eqb (length fs) (length s)
-
-unfoldable pub contentCount : List ℕ → ℕ
-contentCount s = getD s 2 0
-
-unfoldable pub textureCount : List ℕ → ℕ
-textureCount s = getD s 8 0
-
--- where the name of content c stands
-unfoldable pub contentNameAt : List ℕ → ℕ → ℕ
-contentNameAt s c = getD s c 0
-
--- where texture name k stands
-unfoldable pub textureNameAt : List ℕ → ℕ → ℕ
-textureNameAt s k = getD s k 0
+sheetOk s =
+    leb 12 (length s) && sizesOk s && lengthOk s && allBelow (animationCount s) (animationOk s) &&
+    allBelow (contentCount s) (contentOk s (contentsAt s) (animationCount s)) &&
+    targetsOk s (targetsAt s) (contentCount s) (targetCount s) (keyCount s)
