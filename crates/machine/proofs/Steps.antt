@@ -22,7 +22,8 @@ use Rattle.player.specs.Keys.{Keys, keyAt, putKey, get-put, put-put, put-get}
 use Rattle.player.specs.Journal.{rowOf, withRow, row-same, whole-write}
 use Rattle.player.specs.Player.{rows, none, selectionOk}
 use Rattle.player.specs.View.{View, viewOf, withView, pickView, noView, playView, poseView, tickView, tickAnswer, ticks, tickSum, tickFrame, tickEnds, pickTick}
-use Rattle.player.specs.Edit.{Request, Edit, place, edited, madeEdit, editRefusal}
+use Rattle.player.specs.declared.edit.Request.{Request}
+use Rattle.player.specs.Edit.{Edit, place, edited, madeEdit, editRefusal}
 use Rattle.player.specs.Undo.{sameKey, keysOkOf, returnsOk, undoRefusal, redoRefusal, undoEntry, redoEntry, undoneKeys, redoneKeys, undonePlayer, redonePlayer, editedPlayer}
 use Rattle.menu.specs.Calls.{lengthsOk, checkPlayer, checkKeys, playRest, poseRest, tickRest, pickPlayer, pickKeys, playOf, poseOf, tickOf, entryFor, editOf, undoOf, redoOf}
 use Rattle.machine.specs.Calls.{Call, play, pose, tick, edit, undo, redo, Answer, number, ticked, State, stepP}
@@ -73,11 +74,11 @@ tick-seen s dt fps v w e = go (ticks v) refl
     finite-left b c d q h = and-2 c d (rw q at h)
 
     go : (b : Bool) → ticks v ≡ b →
-        Seen s (pickView b (record { selection = v .selection; playing = not (tickEnds s v (tickSum v dt fps)); preview = v .preview; frame = tickFrame s v (tickSum v dt fps) }) v)
+        Seen s (pickView b (record { selection = v .selection; playing = not (tickEnds s (v .selection) (tickSum v dt fps)); preview = v .preview; frame = tickFrame s (v .selection) (tickSum v dt fps) }) v)
     go true q =
         record {
           selection = w .selection;
-          frame = finite-left (ticks v) (finite (tickSum v dt fps)) (finite (tickFrame s v (tickSum v dt fps))) q (passed _ 8 0 tt (passed (finite dt && finite fps) 8 _ tt e .1) .0);
+          frame = finite-left (ticks v) (finite (tickSum v dt fps)) (finite (tickFrame s (v .selection) (tickSum v dt fps))) q (passed _ 8 0 tt (passed (finite dt && finite fps) 8 _ tt e .1) .0);
         }
     go false q = w
 

@@ -10,7 +10,8 @@ use Rattle.player.specs.declared.Tick.the-variants.{Idle}
 use Rattle.player.specs.Keys.{Keys}
 use Rattle.player.specs.Player.{none, rows}
 use Rattle.player.specs.View.{View, noView, playView, poseView, tickView, tickAnswer}
-use Rattle.player.specs.Edit.{Request, Edit, madeEdit, editRefusal}
+use Rattle.player.specs.declared.edit.Request.{Request}
+use Rattle.player.specs.Edit.{Edit, madeEdit, editRefusal}
 use Rattle.menu.specs.Calls.{playRest, poseRest, tickRest}
 use Rattle.machine.specs.Calls.{Call, play, pose, tick, edit, undo, redo, Answer, number, ticked}
 

@@ -17,7 +17,8 @@ use Rattle.player.specs.declared.journal.Entry.{Entry}
 use Rattle.player.specs.Keys.{Keys, keyAt, putKey}
 use Rattle.player.specs.Player.{none, playerOk}
 use Rattle.player.specs.View.{View, viewOf, withView, playView, poseView, ticks, tickSum, tickFrame, tickView, tickAnswer, pickTick}
-use Rattle.player.specs.Edit.{Request, Edit, place, edited, madeEdit, editRefusal}
+use Rattle.player.specs.declared.edit.Request.{Request}
+use Rattle.player.specs.Edit.{Edit, place, edited, madeEdit, editRefusal}
 use Rattle.player.specs.Undo.{keysOkOf, undoRefusal, redoRefusal, undoEntry, redoEntry, undoneKeys, redoneKeys, undonePlayer, redonePlayer, editedPlayer}
 use Rattle.menu.specs.declared.Played.{Played}
 use Rattle.menu.specs.declared.Ticked.{Ticked}
@@ -46,7 +47,7 @@ poseRest x = unless (finite x) 8 0
 unfoldable pub tickRest : List ℕ → View → Float → Float → ℕ
 tickRest s v dt fps =
     unless (finite dt && finite fps) 8
-    (unless (not (ticks v) || finite (tickSum v dt fps) && finite (tickFrame s v (tickSum v dt fps))) 8 0)
+    (unless (not (ticks v) || finite (tickSum v dt fps) && finite (tickFrame s (v .selection) (tickSum v dt fps))) 8 0)
 
 -- the first where the number is 0, and else the second
 abbrev pub pickPlayer : Bool → Player → Player → Player

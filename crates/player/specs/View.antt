@@ -66,19 +66,19 @@ ticks v = not (eqb (v .selection) none) && v .playing
 unfoldable pub tickSum : View → Float → Float → Float
 tickSum v dt fps = v .frame ⊕ dt ⊗ fps
 
--- the active animation's frame count
-unfoldable pub countOf : List ℕ → View → Float
-countOf s v = ofInt binary32 (pos (animationRow s (v .selection) .frames))
+-- animation a's frame count
+unfoldable pub countOf : List ℕ → ℕ → Float
+countOf s a = ofInt binary32 (pos (animationRow s a .frames))
 
 -- at the frame count or past it, a looping animation of at least a frame goes on from the remainder, and any other ends at its frame count
-unfoldable pub wraps : List ℕ → View → Bool
-wraps s v = animationRow s (v .selection) .looping && lt zero' (countOf s v)
+unfoldable pub wraps : List ℕ → ℕ → Bool
+wraps s a = animationRow s a .looping && lt zero' (countOf s a)
 
-unfoldable pub tickFrame : List ℕ → View → Float → Float
-tickFrame s v sum = cond (le (countOf s v) sum) (cond (wraps s v) (rem binary32 sum (countOf s v)) (countOf s v)) sum
+unfoldable pub tickFrame : List ℕ → ℕ → Float → Float
+tickFrame s a sum = cond (le (countOf s a) sum) (cond (wraps s a) (rem binary32 sum (countOf s a)) (countOf s a)) sum
 
-unfoldable pub tickEnds : List ℕ → View → Float → Bool
-tickEnds s v sum = le (countOf s v) sum && not (wraps s v)
+unfoldable pub tickEnds : List ℕ → ℕ → Float → Bool
+tickEnds s a sum = le (countOf s a) sum && not (wraps s a)
 
 abbrev pub pickTick : Bool → Tick → Tick → Tick
 pickTick true a b = a
@@ -88,11 +88,11 @@ pickTick false a b = b
 unfoldable pub tickView : List ℕ → Float → Float → View → View
 tickView s dt fps v =
     pickView (ticks v)
-    (record { selection = v .selection; playing = not (tickEnds s v (tickSum v dt fps)); preview = v .preview; frame = tickFrame s v (tickSum v dt fps) })
+    (record { selection = v .selection; playing = not (tickEnds s (v .selection) (tickSum v dt fps)); preview = v .preview; frame = tickFrame s (v .selection) (tickSum v dt fps) })
     v
 
 unfoldable pub tickAnswer : List ℕ → Float → Float → View → Tick
 tickAnswer s dt fps v =
     pickTick (ticks v)
-    (pickTick (tickEnds s v (tickSum v dt fps)) (pickTick (animationRow s (v .selection) .next) Next Ended) Running)
+    (pickTick (tickEnds s (v .selection) (tickSum v dt fps)) (pickTick (animationRow s (v .selection) .next) Next Ended) Running)
     Idle

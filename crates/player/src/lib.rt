@@ -1,4 +1,5 @@
 // The player: what is selected and shown, and the journal of the edits that can be undone and redone.
+pub mod edit;
 pub mod journal;
 
 use journal::Journal;
