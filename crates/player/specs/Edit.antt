@@ -11,7 +11,6 @@ use Rattle.float.specs.Numbers.{#, zero', _⊕_, _⊖_, finite}
 use Rattle.float.specs.Grow.{hundredth}
 use Rattle.float.specs.Clamp.{clampOf, maxOf}
 use Rattle.float.specs.StepValue.{stepValue}
-use Rattle.sheet.specs.Sizes.{targetCount}
 use Rattle.sheet.specs.Rows.{contentRow, targetRow}
 use Rattle.curve.specs.declared.Key.{Key}
 use Rattle.curve.specs.Curve.{kindConstant, kindStep, kindHermite}
@@ -19,7 +18,7 @@ use Rattle.player.specs.declared.edit.Request.{Request}
 use Rattle.player.specs.declared.edit.Request.the-variants as request
 use Rattle.player.specs.declared.edit.Spot.{Spot}
 use Rattle.player.specs.Keys.{Keys, keyAt, putKey}
-use Rattle.player.specs.Player.{none}
+use Rattle.player.specs.Player.{none, hasKey}
 
 -- An edit: the animation that was active, a track (document 01's word for a target's row), a key of it, and the request.
 pub record Edit : Type 0 where
@@ -80,8 +79,7 @@ requestRefusal fs p (request.Slope m) = unless (finite m) 8 (unless (eqb (p .cur
 
 -- the track is one of the animation's, and has such a key
 unfoldable pub keyIn : List ℕ → ℕ → ℕ → ℕ → Bool
-keyIn s animation track key =
-    ltb track (targetCount s) && eqb (contentRow s (targetRow s track .content) .animation) animation && ltb key (targetRow s track .count)
+keyIn s animation track key = hasKey s track key && eqb (contentRow s (targetRow s track .content) .animation) animation
 
 -- rows 6 to 10: nothing active; the track is not in the active animation, or no such key; and the request's own
 unfoldable pub editRefusal : List ℕ → ℕ → Keys → ℕ → ℕ → Request → ℕ

@@ -14,6 +14,9 @@ pub record Keys : Type 0 where
   pub values : List Float
   pub slopes : List Float
 
+abbrev pub keys : List Float → List Float → List Float → Keys
+keys fs vs ss = record { frames = fs; values = vs; slopes = ss }
+
 -- the key at i
 unfoldable pub keyAt : Keys → ℕ → Key
 keyAt ks i = curve.keyAt (ks .frames) (ks .values) (ks .slopes) i

@@ -45,9 +45,13 @@ freshPlayer =
 unfoldable pub selectionOk : List ℕ → ℕ → Bool
 selectionOk s selection = eqb selection none || ltb selection (animationCount s)
 
+-- the sheet has the track, and the track the key
+unfoldable pub hasKey : List ℕ → ℕ → ℕ → Bool
+hasKey s track key = ltb track (targetCount s) && ltb key (targetRow s track .count)
+
 -- an entry names a track and one of its keys
-unfoldable pub entryOk : List ℕ → Entry → Bool
-entryOk s e = ltb (e .track) (targetCount s) && ltb (e .key) (targetRow s (e .track) .count)
+abbrev pub entryOk : List ℕ → Entry → Bool
+entryOk s e = hasKey s (e .track) (e .key)
 
 -- the used row number i: the rows of the last `reach` standing edits and of the redo list, which come right after them
 unfoldable pub usedOk : List ℕ → Journal → ℕ → ℕ → Bool

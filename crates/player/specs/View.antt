@@ -84,6 +84,10 @@ abbrev pub pickTick : Bool → Tick → Tick → Tick
 pickTick true a b = a
 pickTick false a b = b
 
+-- how an animation ends
+unfoldable pub endOf : List ℕ → ℕ → Tick
+endOf s a = pickTick (animationRow s a .next) Next Ended
+
 -- where a playing tick leaves the view, and what a tick answers
 unfoldable pub tickView : List ℕ → Float → Float → View → View
 tickView s dt fps v =
@@ -94,5 +98,5 @@ tickView s dt fps v =
 unfoldable pub tickAnswer : List ℕ → Float → Float → View → Tick
 tickAnswer s dt fps v =
     pickTick (ticks v)
-    (pickTick (tickEnds s (v .selection) (tickSum v dt fps)) (pickTick (animationRow s (v .selection) .next) Next Ended) Running)
+    (pickTick (tickEnds s (v .selection) (tickSum v dt fps)) (endOf s (v .selection)) Running)
     Idle

@@ -1,8 +1,14 @@
 // The player: what is selected and shown, and the journal of the edits that can be undone and redone.
 pub mod edit;
 pub mod journal;
+pub mod playing;
 
 use journal::Journal;
+ghost use mathlib.Core.Path.{_≡_};
+ghost use Rattle.player.specs.Player.{freshPlayer};
+
+// The number that selects nothing.
+pub const NONE: u16 = 65535;
 
 // `selection` is an animation's number, or NONE. `reach` is how many standing edits can be undone, `redo` how many undone ones can be made
 // again; `standing` counts the edits that stand. Numbers and arrays only, so that the struct passes by value to Rust and C.
@@ -27,4 +33,24 @@ pub enum Tick {
     Running,
     Ended,
     Next,
+}
+
+impl Player {
+    pub fn fresh() -> Player
+        ensures { λ r. ⌜ r ≡ freshPlayer ⌝ }
+    {
+        Player {
+            selection: NONE,
+            playing: false,
+            preview: false,
+            frame: 0.0,
+            reach: 0,
+            redo: 0,
+            accepted: 0,
+            undone: 0,
+            redone: 0,
+            standing: 0,
+            journal: Journal::fresh(),
+        }
+    }
 }
