@@ -6,3 +6,5 @@ pub mod Ticked
 pub mod Edit
 pub mod Spot
 pub mod Undo
+pub mod Counts
+pub mod Sound

@@ -87,6 +87,10 @@ redonePlayer p =
       journal = p .journal;
     }
 
+-- one more edit that can be undone, up to 128
+abbrev pub oneMore : ℕ → ℕ
+oneMore reach = min (reach + 1) rows
+
 -- Accepted edit: reach + 1 up to 128, redo emptied, accepted + 1; its entry goes into the journal.
 unfoldable pub editedPlayer : Player → Entry → Player
 editedPlayer p e =
@@ -95,7 +99,7 @@ editedPlayer p e =
       playing = p .playing;
       preview = p .preview;
       frame = p .frame;
-      reach = min (p .reach + 1) rows;
+      reach = oneMore (p .reach);
       redo = 0;
       accepted = p .accepted + 1;
       undone = p .undone;

@@ -2,6 +2,8 @@
 pub mod edit;
 pub mod journal;
 pub mod playing;
+pub mod state;
+pub mod undo;
 
 use journal::Journal;
 ghost use mathlib.Core.Path.{_≡_};
