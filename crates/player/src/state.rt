@@ -39,14 +39,7 @@ fn selection_ok(s: &[u8], selection: u16) -> bool
 }
 
 // Each number is held to its bound before two are added.
-fn counts_ok(
-    reach: u64,
-    redo: u64,
-    accepted: u64,
-    undone: u64,
-    redone: u64,
-    standing: u64,
-) -> bool
+fn counts_ok(reach: u64, redo: u64, accepted: u64, undone: u64, redone: u64, standing: u64) -> bool
     ensures { λ r. ⌜ r ≡ countsOk reach redo accepted undone redone standing ⌝ }
 {
     if 128 < reach {

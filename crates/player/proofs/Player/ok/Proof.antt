@@ -1,52 +1,40 @@
+use native.Mathlib.Omega.{arith}
+use Rattle.laws.specs.Tests.{no, yes}
+use Rattle.player.specs.Sound.{counts}
+use Rattle.player.proofs.Whole.{selection-no, frame-no, counts-no, rows-left}
 use borrow.Author.Needs.{needs}
 use Rattle.player.proofs.Player.ok.Statement.{statement}
 use Rattle.player.proofs.Player.ok.Tie as tie
-use Rattle.player.proofs.Player.ok.Reads as reads
-use Rattle.player.proofs.Player.ok.Lts as lts
-use Rattle.float.proofs.is_finite.Reads as is-finite-reads
-use Rattle.player.proofs.journal.Journal.rows_ok.Reads as rows-ok-reads
-use Rattle.player.proofs.state.counts_ok.Reads as counts-ok-reads
-use Rattle.player.proofs.state.selection_ok.Reads as selection-ok-reads
 
--- src/state.rt:78:13
 selection-ok-requires : tie.Need-selection-ok-requires
 selection-ok-requires c κs = search needs
 
--- src/state.rt:79:13
 returns : tie.Need-returns
-returns c = ?
+returns c = selection-no _ _ (no (c .before .selection-ok .ensures) (c .if1 .taken))
 
--- src/state.rt:81:13
 is-finite-requires : tie.Need-is-finite-requires
 is-finite-requires c κs = search needs
 
--- src/state.rt:82:13
 returns-2 : tie.Need-returns-2
-returns-2 c = ?
+returns-2 c = frame-no _ _ (no (c .before .is-finite .ensures) (c .if2 .taken))
 
--- src/state.rt:84:13
 counts-ok-requires : tie.Need-counts-ok-requires
 counts-ok-requires c κs = search needs
 
--- src/state.rt:92:13
 returns-3 : tie.Need-returns-3
-returns-3 c = ?
+returns-3 c = counts-no _ _ (no (c .before .counts-ok .ensures) (c .if3 .taken))
 
--- src/state.rt:94:21
 sub-first : tie.Need-sub-first
-sub-first c = ?
+sub-first c = let k = counts _ _ _ _ _ _ (yes (c .before .before .counts-ok .ensures) (c .before .if3 .left)) in omega arith
 
--- src/state.rt:95:17
 add-n : tie.Need-add-n
-add-n c = ?
+add-n c = let k = counts _ _ _ _ _ _ (yes (c .before .before .before .counts-ok .ensures) (c .before .before .if3 .left)) in omega arith
 
--- src/state.rt:96:9
 rows-ok-requires : tie.Need-rows-ok-requires
-rows-ok-requires c κs = ?
+rows-ok-requires c κs = let k = counts _ _ _ _ _ _ (yes (c .before .before .before .counts-ok .ensures) (c .before .before .if3 .left)) in (c .before .before .before .before .before .before .before .before .before .pre, omega arith)
 
--- src/state.rt:74:5
 returns-4 : tie.Need-returns-4
-returns-4 c = ?
+returns-4 c = rows-left _ _ (yes (c .before .before .before .before .before .before .before .before .selection-ok .ensures) (c .before .before .before .before .before .before .before .if1 .left)) (yes (c .before .before .before .before .before .before .is-finite .ensures) (c .before .before .before .before .before .if2 .left)) (yes (c .before .before .before .before .counts-ok .ensures) (c .before .before .before .if3 .left)) (c .rows-ok .ensures)
 
 pub ok-spec : {M : Type 1} → statement M
 ok-spec =
