@@ -25,7 +25,7 @@ use Rattle.player.specs.View.{View, viewOf, withView, pickView, noView, playVie
 use Rattle.player.specs.declared.edit.Request.{Request}
 use Rattle.player.specs.Edit.{Edit, place, edited, madeEdit, editRefusal}
 use Rattle.player.specs.Undo.{sameKey, keysOkOf, returnsOk, undoRefusal, redoRefusal, undoEntry, redoEntry, undoneKeys, redoneKeys, undonePlayer, redonePlayer, editedPlayer}
-use Rattle.menu.specs.Calls.{lengthsOk, checkPlayer, checkKeys, playRest, poseRest, tickRest, pickPlayer, pickKeys, playOf, poseOf, tickOf, entryFor, editOf, undoOf, redoOf}
+use Rattle.menu.specs.Calls.{lengthsOk, checkPlayer, checkKeys, playRest, poseRest, tickRest, tickMoves, pickPlayer, pickKeys, playOf, poseOf, tickOf, entryFor, editOf, undoOf, redoOf}
 use Rattle.machine.specs.Calls.{Call, play, pose, tick, edit, undo, redo, Answer, number, ticked, State, stepP}
 use Rattle.machine.specs.Plain.{Plain, replay, keysOf, viewed, moves, ticksOn, edits, undoes, redoes, asked, stepM}
 use Rattle.machine.proofs.Invariant.{Sane, Fair, Row, Back, Fore, Seen, image, Good, less, kept}
@@ -67,7 +67,7 @@ suc-not : (k : ℕ) → eqb (suc k) 0 ≡ false
 suc-not k = ne-eqb (suc k) 0 (λ e. omega arith)
 
 tick-seen : (s : List ℕ) (dt fps : Float) (v : View) → Seen s v → tickRest s v dt fps ≡ 0 → Seen s (tickView s dt fps v)
-unfolding tickRest tickView
+unfolding tickRest tickMoves tickView
 tick-seen s dt fps v w e = go (ticks v) refl
   where
     finite-left : (b c d : Bool) → b ≡ true → (not b || c && d) ≡ true → d ≡ true

@@ -7,8 +7,8 @@ use Rattle.player.specs.declared.Player.{Player}
 use Rattle.player.specs.declared.Tick.{Tick}
 use Rattle.player.specs.Keys.{Keys}
 use Rattle.player.specs.declared.edit.Request.{Request}
-use Rattle.menu.specs.declared.Played.{Played}
-use Rattle.menu.specs.declared.Ticked.{Ticked}
+use Rattle.menu.specs.declared.playing.Played.{Played}
+use Rattle.menu.specs.declared.playing.Ticked.{Ticked}
 use Rattle.menu.specs.Calls.{Changed, playOf, poseOf, tickOf, editOf, undoOf, redoOf}
 
 -- a call: what it takes, player and keys apart

@@ -20,8 +20,8 @@ use Rattle.player.specs.View.{View, viewOf, withView, playView, poseView, ticks
 use Rattle.player.specs.declared.edit.Request.{Request}
 use Rattle.player.specs.Edit.{Edit, place, edited, madeEdit, editRefusal}
 use Rattle.player.specs.Undo.{keysOkOf, undoRefusal, redoRefusal, undoEntry, redoEntry, undoneKeys, redoneKeys, undonePlayer, redonePlayer, editedPlayer}
-use Rattle.menu.specs.declared.Played.{Played}
-use Rattle.menu.specs.declared.Ticked.{Ticked}
+use Rattle.menu.specs.declared.playing.Played.{Played}
+use Rattle.menu.specs.declared.playing.Ticked.{Ticked}
 
 -- row 3: each key array is K long
 unfoldable pub lengthsOk : List ℕ → Keys → Bool
@@ -44,10 +44,11 @@ unfoldable pub poseRest : Float → ℕ
 poseRest x = unless (finite x) 8 0
 
 -- row 8 of tick: its arguments, and in a playing tick the sum and the frame that it would leave
+unfoldable pub tickMoves : List ℕ → View → Float → Float → Bool
+tickMoves s v dt fps = not (ticks v) || finite (tickSum v dt fps) && finite (tickFrame s (v .selection) (tickSum v dt fps))
+
 unfoldable pub tickRest : List ℕ → View → Float → Float → ℕ
-tickRest s v dt fps =
-    unless (finite dt && finite fps) 8
-    (unless (not (ticks v) || finite (tickSum v dt fps) && finite (tickFrame s (v .selection) (tickSum v dt fps))) 8 0)
+tickRest s v dt fps = unless (finite dt && finite fps) 8 (unless (tickMoves s v dt fps) 8 0)
 
 -- the first where the number is 0, and else the second
 abbrev pub pickPlayer : Bool → Player → Player → Player

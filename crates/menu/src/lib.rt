@@ -1,14 +1,9 @@
 // The outward interface: each call checks by rising number, then makes its step. No function here asks anything of its caller.
-use player::Player;
-use player::Tick;
+mod check;
+mod playing;
 
-pub struct Played {
-    pub refusal: u8,
-    pub player: Player,
-}
-
-pub struct Ticked {
-    pub refusal: u8,
-    pub answer: Tick,
-    pub player: Player,
-}
+pub use playing::Played;
+pub use playing::Ticked;
+pub use playing::play;
+pub use playing::pose;
+pub use playing::tick;

@@ -34,13 +34,6 @@ pub has-track : (s : List ℕ) (track key : ℕ) → hasKey s track key ≡ true
 unfolding hasKey
 has-track s track key e = ltb-true track (targetCount s) (and-1 _ _ e)
 
--- two calls answered a and b, and `!(a & b)` was tested
-pub joined-no : {a b p q : Bool} → a ≡ p → b ≡ q → not (a && b) ≡ true → (p && q) ≡ false
-joined-no {a} {b} e f t = rw (← e, ← f) (not-true (a && b) t)
-
-pub joined-yes : {a b p q : Bool} → a ≡ p → b ≡ q → not (a && b) ≡ false → (p && q) ≡ true
-joined-yes {a} {b} e f t = rw (← e, ← f) (not-false (a && b) t)
-
 -- the place of a key fits, since a checked sheet has few keys
 pub spot-fits : {s : List ℕ} → Checked s → (track key : ℕ) (row : Target) → track < targetCount s → row ≡ targetRow s track → key < 65536 → row .first + key < 2 ^ 64
 spot-fits w track key row l e k = rw e (omega (arith, target-keys w track l, w .keys))

@@ -1,7 +1,7 @@
 use mathlib.Core.Path.{refl}
 use Rattle.player.specs.Edit.{requestRefusal}
 use Rattle.laws.specs.Refusals.{stop, skip}
-use Rattle.player.proofs.Laws.{joined-no, joined-yes}
+use Rattle.laws.specs.Tests.{joined-no, joined-yes}
 use borrow.Author.Needs.{needs}
 use Rattle.player.proofs.edit.key_refusal.Statement.{statement}
 use Rattle.player.proofs.edit.key_refusal.Tie as tie
