@@ -6,7 +6,7 @@ use mathlib.Core.List.{List}
 use lib.Dec.{eqb}
 use Rattle.laws.specs.Refusals.{unless}
 use Rattle.float.specs.Numbers.{sameBits}
-use Rattle.sheet.specs.KeyRules.{keysOk}
+use Rattle.keys.specs.Keys.{keysOk}
 use Rattle.curve.specs.declared.Key.{Key}
 use Rattle.player.specs.declared.Player.{Player}
 use Rattle.player.specs.declared.journal.Entry.{Entry}
