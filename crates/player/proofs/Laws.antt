@@ -36,7 +36,7 @@ has-track s track key e = ltb-true track (targetCount s) (and-1 _ _ e)
 
 -- the place of a key fits, since a checked sheet has few keys
 pub spot-fits : {s : List ℕ} → Checked s → (track key : ℕ) (row : Target) → track < targetCount s → row ≡ targetRow s track → key < 65536 → row .first + key < 2 ^ 64
-spot-fits w track key row l e k = rw e (omega (arith, target-keys w track l, w .keys))
+spot-fits w track key row l e k = rw e (omega (arith, target-keys w track l))
 
 -- a tick of a player with a selection that plays, and of any other
 pub selected : (p : Player) (b : Bool) → b ≡ ticks (viewOf p) → not b ≡ false → p .selection ≡ none → ⊥
