@@ -11,12 +11,16 @@ use Rattle.player.specs.declared.Player.{Player}
 use Rattle.player.specs.Player.{none, playerOk}
 use Rattle.player.specs.Sound.{Sound, sound, selected-below}
 use Rattle.player.specs.Ticked.{Selected}
-use Rattle.menu.specs.Calls.{checkPlayer, tickMoves}
+use Rattle.menu.specs.Calls.{checkPlayer, tickMoves, lengthsOk, checkKeys}
+use Rattle.player.specs.Keys.{Keys}
+use Rattle.player.specs.Undo.{keysOkOf}
+use Rattle.sheet.specs.Sizes.{keyCount}
+use lib.ListN.{length}
 use Rattle.player.specs.View.{viewOf, ticks, tickSum, tickFrame}
 use Rattle.float.specs.Numbers.{finite}
 use lib.Ieee.{Float}
-use Rattle.laws.specs.Tests.{and-1}
-use borrow.Author.Tests.{eqb-false, not-true}
+use Rattle.laws.specs.Tests.{and-1, both}
+use borrow.Author.Tests.{eqb-false, not-true, eqb-true}
 
 -- a test that fails answers its number whatever comes next, and one that holds answers what comes next
 unless-stop : (b : Bool) (k rest : ℕ) (m : ℕ) → m ≡ unless b k 0 → (m ≡ 0 → ⊥) → m ≡ unless b k rest
@@ -67,3 +71,61 @@ pub moves-is : (s : List ℕ) (p : Player) (dt fps : Float) {sum frame : Float} 
     → frame ≡ tickFrame s (p .selection) sum → b ≡ finite frame → (a && b) ≡ tickMoves s (viewOf p) dt fps
 unfolding tickMoves
 moves-is s p dt fps t q a f b = rw (t, ← q, ← f, a, b)
+
+-- ---- calls that also take keys
+pub record KeysReady (s : List ℕ) (p : Player) (ks : Keys) : Type 0 where
+  pub sheet : Checked s
+  pub frames : length (ks .frames) ≡ keyCount s
+  pub values : length (ks .values) ≡ keyCount s
+  pub slopes : length (ks .slopes) ≡ keyCount s
+  pub rules : keysOkOf s ks ≡ true
+  pub player : Sound s p
+
+pub lengths-known : (s : List ℕ) (ks : Keys) → lengthsOk s ks ≡ true → (length (ks .frames) ≡ keyCount s) × (length (ks .values) ≡ keyCount s) × (length (ks .slopes) ≡ keyCount s)
+unfolding lengthsOk
+lengths-known s ks e =
+    let b = both _ (eqb (length (ks .slopes)) (keyCount s)) e in
+    let a = both (eqb (length (ks .frames)) (keyCount s)) (eqb (length (ks .values)) (keyCount s)) (b .0) in
+    (eqb-true _ _ (a .0), eqb-true _ _ (a .1), eqb-true _ _ (b .1))
+
+module _ (s : List ℕ) (p : Player) (ks : Keys) where
+  pub keys-stop : {n : ℕ} (rest : ℕ) → n ≡ checkKeys s p ks 0 → (n ≡ 0 → ⊥) → n ≡ checkKeys s p ks rest
+  unfolding checkKeys unless
+  keys-stop {n} rest e d = one (sheetOk s) e
+    where
+      four : (b : Bool) → n ≡ unless b 4 (unless (playerOk s p) 5 0) → n ≡ unless b 4 (unless (playerOk s p) 5 rest)
+      four true q = unless-stop (playerOk s p) 5 rest n q d
+      four false q = q
+
+      three : (b : Bool) → n ≡ unless b 3 (unless (keysOkOf s ks) 4 (unless (playerOk s p) 5 0)) → n ≡ unless b 3 (unless (keysOkOf s ks) 4 (unless (playerOk s p) 5 rest))
+      three true q = four (keysOkOf s ks) q
+      three false q = q
+
+      one : (b : Bool) → n ≡ unless b 1 (unless (lengthsOk s ks) 3 (unless (keysOkOf s ks) 4 (unless (playerOk s p) 5 0))) →
+          n ≡ unless b 1 (unless (lengthsOk s ks) 3 (unless (keysOkOf s ks) 4 (unless (playerOk s p) 5 rest)))
+      one true q = three (lengthsOk s ks) q
+      one false q = q
+
+  pub keys-go : {n m : ℕ} (rest : ℕ) → n ≡ checkKeys s p ks 0 → n ≡ 0 → m ≡ rest → m ≡ checkKeys s p ks rest
+  unfolding checkKeys
+  keys-go rest e z h =
+      let a = passed (sheetOk s) 1 _ tt (sym e ∙ z) in
+      let b = passed (lengthsOk s ks) 3 _ tt (a .1) in
+      let c = passed (keysOkOf s ks) 4 _ tt (b .1) in
+      let d = passed (playerOk s p) 5 _ tt (c .1) in
+      h ∙ sym (pass (sheetOk s) 1 _ (a .0) ∙ pass (lengthsOk s ks) 3 _ (b .0) ∙ pass (keysOkOf s ks) 4 _ (c .0) ∙ pass (playerOk s p) 5 rest (d .0))
+
+  pub keys-ready : {n : ℕ} (rest : ℕ) → n ≡ checkKeys s p ks rest → n ≡ 0 → KeysReady s p ks
+  unfolding checkKeys
+  keys-ready rest e z =
+      let a = passed (sheetOk s) 1 _ tt (sym e ∙ z) in
+      let b = passed (lengthsOk s ks) 3 _ tt (a .1) in
+      let c = passed (keysOkOf s ks) 4 _ tt (b .1) in
+      let d = passed (playerOk s p) 5 _ tt (c .1) in
+      let l = lengths-known s ks (b .0) in
+      record { sheet = checked s (a .0); frames = l .0; values = l .1; slopes = l .2; rules = c .0; player = sound s p (d .0) }
+
+  pub keys-rest : {n : ℕ} (rest : ℕ) → n ≡ checkKeys s p ks rest → n ≡ 0 → rest ≡ 0
+  unfolding checkKeys
+  keys-rest rest e z =
+      passed (playerOk s p) 5 _ tt (passed (keysOkOf s ks) 4 _ tt (passed (lengthsOk s ks) 3 _ tt (passed (sheetOk s) 1 _ tt (sym e ∙ z) .1) .1) .1) .1

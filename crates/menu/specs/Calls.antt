@@ -84,6 +84,10 @@ pub record Changed : Type 0 where
   pub player : Player
   pub keys : Keys
 
+-- a call's answer with the three lists as it left them
+abbrev pub gave : Played → Keys → Changed
+gave r ks = record { refusal = r .refusal; player = r .player; keys = ks }
+
 abbrev pub changed : ℕ → Player → Keys → Player → Keys → Changed
 changed n p ks q ls = record { refusal = n; player = pickPlayer (eqb n 0) q p; keys = pickKeys (eqb n 0) ls ks }
 

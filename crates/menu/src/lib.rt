@@ -1,7 +1,10 @@
 // The outward interface: each call checks by rising number, then makes its step. No function here asks anything of its caller.
 mod check;
+mod editing;
 mod playing;
 
+pub use editing::key_edit;
+pub use editing::slope_edit;
 pub use playing::Played;
 pub use playing::Ticked;
 pub use playing::play;
