@@ -1,3 +1,4 @@
 pub mod Checks
 pub mod Results
 pub mod Edits
+pub mod Undoes
