@@ -1,5 +1,3 @@
--- Document 01, "Channels".
+-- Document 01, "Channels": which channel a target addresses, and what a channel reads.
 pub mod Channel
 pub mod Reading
-pub mod Resolve
-pub mod Cascade

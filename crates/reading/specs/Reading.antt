@@ -39,14 +39,18 @@ value16At s fs vs ss x t = evalPartStepU16 (targetRow s t .curve) (targetRow s t
 unfoldable pub levelOf : Float → ℕ
 levelOf v = toUnsigned 8 (clampOf (wholeOf v) zero' full)
 
+-- a texture index from X up leaves that slot with no override
+unfoldable pub rowOf : ℕ → ℕ → Reading
+rowOf n x = cond (ltb n x) (Row n) Nothing
+
 -- What a target of a family reads, by its value v, the same as u16, n, and X, the number of texture names: alpha and colours are value / 255;
--- visible is: u16 value not 0; a texture index from X up leaves that slot with no override.
-unfoldable pub readAs : Family → Float → ℕ → ℕ → Reading
+-- visible is: u16 value not 0.
+abbrev pub readAs : Family → Float → ℕ → ℕ → Reading
 readAs family.PaneSrt v n x = Number v
 readAs family.Visibility v n x = Shown (not (eqb n 0))
 readAs family.VertexColor v n x = Number (v ⊘ full)
 readAs family.TextureSrt v n x = Number v
-readAs family.TexturePattern v n x = cond (ltb n x) (Row n) Nothing
+readAs family.TexturePattern v n x = rowOf n x
 readAs family.IndirectSrt v n x = Number v
 readAs family.AlphaCompare v n x = Number v
 readAs family.MaterialColor v n x = Level (levelOf v)
@@ -72,14 +76,14 @@ reading s b fs vs ss (active.At a x) c = readingOf s fs vs ss x (lastTarget s b 
 
 -- ---- a reading as a mark and a number: shown is 1, hidden 0; rows and levels stand as their numbers; 0 where unmarked
 
-unfoldable pub markOf : Reading → ℕ
+abbrev pub markOf : Reading → ℕ
 markOf Nothing = 0
 markOf (Number v) = 1
 markOf (Shown b) = 1
 markOf (Row k) = 1
 markOf (Level l) = 1
 
-unfoldable pub numberOf : Reading → Float
+abbrev pub numberOf : Reading → Float
 numberOf Nothing = zero'
 numberOf (Number v) = v
 numberOf (Shown b) = cond b one' zero'

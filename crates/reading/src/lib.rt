@@ -1,7 +1,6 @@
 // What an animation at a frame does to the panes and materials of a book (document 01, "Channels").
-
-use book::Vector2f;
-use book::Vector3f;
+mod channel;
+mod value;
 
 // A target's family, by its four-letter code.
 pub enum Family {
@@ -36,19 +35,4 @@ pub enum Reading {
     Shown(bool),
     Row(u16),
     Level(u8),
-}
-
-// The Rust's ResolvedPaneTransform.
-pub struct Transform {
-    pub translation: Vector3f,
-    pub rotation: Vector3f,
-    pub scale: Vector2f,
-    pub size: Vector2f,
-}
-
-// What the cascade gives a pane: whether it is shown, its alpha, and the influence that it hands its children.
-pub struct Cascaded {
-    pub visible: bool,
-    pub alpha: f32,
-    pub influence: f32,
 }

@@ -9,12 +9,12 @@ use Rattle.field.specs.Name.{nameAt}
 use Rattle.sheet.specs.Rows.{textureName}
 use Rattle.book.specs.Book.{paneAt, srtAt, slotNameAt}
 use Rattle.book.specs.declared.Srt.{Srt}
 use Rattle.reading.specs.Channel.{ofPane, ofMaterial}
 use Rattle.reading.specs.Reading.{reading, full}
 use Rattle.reading.specs.declared.Active.{Active}
 use Rattle.reading.specs.declared.Reading.{Reading}
 use Rattle.reading.specs.declared.Reading.the-variants.{Nothing, Number, Shown, Row, Level}
-use Rattle.reading.specs.declared.Transform.{Transform}
+use Rattle.resolve.specs.declared.Transform.{Transform}
 
 -- a reading's number, or what the book has
 unfoldable pub orNumber : Reading → Float → Float

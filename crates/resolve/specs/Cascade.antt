@@ -8,9 +8,9 @@ use lib.Ieee.{Float}
 use Rattle.laws.specs.Grown.{grow}
 use Rattle.float.specs.Numbers.{one', _⊗_}
 use Rattle.book.specs.Book.{paneCount, paneAt}
-use Rattle.reading.specs.Resolve.{visibleOf, alphaOf}
+use Rattle.resolve.specs.Resolve.{visibleOf, alphaOf}
 use Rattle.reading.specs.declared.Active.{Active}
-use Rattle.reading.specs.declared.Cascaded.{Cascaded}
+use Rattle.resolve.specs.declared.Cascaded.{Cascaded}
 
 -- a root is given true and 1.0
 abbrev pub root : Cascaded
