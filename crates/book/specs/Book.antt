@@ -1,46 +1,31 @@
+-- What a book is: row 2 of the table in document 01, "What a call declines". In the order of document 01, "Sheet and book". Definitions only.
 use Prim.Native.Nat.{ℕ, _+_, _*_}
-use mathlib.Core.Bool.{Bool, true}
 use mathlib.Core.List.{List}
-use lib.ListN.{getD, length}
-use lib.Dec.{eqb, leb}
-use lib.Ieee.{Float}
-use Rattle.field.specs.Read.{u16At, byteAt, floatAt}
-use Rattle.book.specs.declared.Pane.{Pane}
-use Rattle.book.specs.declared.Srt.{Srt}
+use mathlib.Core.Bool.{Bool, _&&_, _||_}
+use lib.ListN.{length}
+use lib.Dec.{leb, ltb, eqb}
+use Rattle.laws.specs.Below.{allBelow}
+use Rattle.field.specs.Read.{byteAt, u16At, finiteRow}
+use Rattle.field.specs.Name.{namesOk}
+use Rattle.book.specs.Sizes.{paneCount, materialCount, materialsAt, noParent}
 
-unfoldable pub paneCount : List ℕ → ℕ
-paneCount b = u16At b 0
+-- P panes 1..64 and M materials 0..32; 4 + 72P + 156M bytes
+unfoldable pub sizesOk : List ℕ → Bool
+sizesOk b = leb 1 (paneCount b) && leb (paneCount b) 64 && leb (materialCount b) 32 && eqb (length b) (4 + paneCount b * 72 + materialCount b * 156)
 
-unfoldable pub materialCount : List ℕ → ℕ
-materialCount b = u16At b 2
+-- pane i, its label apart: parent none or a smaller row; flags' other bits 0; origins 0..2; zero u16; ten finite f32. Alpha is any.
+unfoldable pub paneOk : List ℕ → ℕ → Bool
+paneOk b i =
+    (eqb (u16At b (4 + i * 72 + 24)) noParent || ltb (u16At b (4 + i * 72 + 24)) i) && leb (byteAt b (4 + i * 72 + 26)) 3 &&
+    leb (byteAt b (4 + i * 72 + 28)) 2 && leb (byteAt b (4 + i * 72 + 29)) 2 && eqb (u16At b (4 + i * 72 + 30)) 0 &&
+    finiteRow b (4 + i * 72 + 32) 10
 
-unfoldable pub panesAt : List ℕ → ℕ
-panesAt b = 4
+-- material i, its name apart, where the materials start at `base`: three SRTs of five finite f32. Texture names are any bytes.
+unfoldable pub materialOk : List ℕ → ℕ → ℕ → Bool
+materialOk b base i = finiteRow b (base + i * 156 + 96) 15
 
-unfoldable pub materialsAt : List ℕ → ℕ
-materialsAt b = 4 + paneCount b * 72
-
+-- pane labels are distinct and not empty, material names likewise
 unfoldable pub bookOk : List ℕ → Bool
-bookOk b = eqb (length b) 0
-
-unfoldable pub paneAt : List ℕ → ℕ → Pane
-paneAt b i =
-    record {
-      parent = u16At b i;
-      visible = true;
-      influences = true;
-      alpha = byteAt b i;
-      horizontal = 0;
-      vertical = 0;
-      translation = record { x = floatAt b i; y = floatAt b i; z = floatAt b i };
-      rotation = record { x = floatAt b i; y = floatAt b i; z = floatAt b i };
-      scale = record { x = floatAt b i; y = floatAt b i };
-      size = record { x = floatAt b i; y = floatAt b i };
-    }
-
-unfoldable pub srtAt : List ℕ → ℕ → ℕ → Srt
-srtAt b m layer = record { tu = floatAt b m; tv = floatAt b m; rotate = floatAt b m; su = floatAt b m; sv = floatAt b m }
-
--- where the texture name of a material's slot stands
-unfoldable pub slotNameAt : List ℕ → ℕ → ℕ → ℕ
-slotNameAt b m slot = m + slot
+bookOk b =
+    leb 4 (length b) && sizesOk b && allBelow (paneCount b) (paneOk b) && allBelow (materialCount b) (materialOk b (materialsAt b)) &&
+    namesOk b 4 72 (paneCount b) && namesOk b (materialsAt b) 156 (materialCount b)

@@ -1,4 +1,14 @@
-// The rows of a checked sheet, by value, and the names in them, as parts of the lent slice.
+// The sizes and the rows of a sheet, by value, and the names in it, as parts of the lent slice.
+// The rows ask for a checked sheet, so that whoever holds one needs no index proof of its own.
+use field::byte_at;
+use field::u16_at;
+ghost use mathlib.Core.Path.{_≡_};
+ghost use Prim.Native.Nat.{ℕ, _+_, _*_, _<_, _≤_};
+ghost use lib.ListN.{length};
+ghost use Rattle.sheet.specs.Sizes.{animationCount, contentCount, targetCount, keyCount, textureCount, contentsAt, targetsAt, texturesAt};
+ghost use Rattle.sheet.specs.Rows.{animationRow, contentRow, targetAt, targetRow, nextName, contentName, textureName};
+ghost use Rattle.sheet.specs.Checked.{Checked};
+
 pub struct Animation {
     pub frames: u16,
     pub looping: bool,
@@ -18,4 +28,133 @@ pub struct Target {
     pub curve: usize,
     pub first: usize,
     pub count: usize,
+}
+
+// ---- sizes, and where the tables start
+
+pub fn animation_count(s: &[u8]) -> usize
+    requires { ⌜ 12 ≤ length (now s) ⌝ }
+    ensures { λ r. ⌜ r ≡ animationCount (now (s .entry)) ⌝ }
+{
+    u16_at(s, 0)
+}
+
+pub fn content_count(s: &[u8]) -> usize
+    requires { ⌜ 12 ≤ length (now s) ⌝ }
+    ensures { λ r. ⌜ r ≡ contentCount (now (s .entry)) ⌝ }
+{
+    u16_at(s, 2)
+}
+
+pub fn target_count(s: &[u8]) -> usize
+    requires { ⌜ 12 ≤ length (now s) ⌝ }
+    ensures { λ r. ⌜ r ≡ targetCount (now (s .entry)) ⌝ }
+{
+    u16_at(s, 4)
+}
+
+pub fn key_count(s: &[u8]) -> usize
+    requires { ⌜ 12 ≤ length (now s) ⌝ }
+    ensures { λ r. ⌜ r ≡ keyCount (now (s .entry)) ⌝ }
+{
+    u16_at(s, 6)
+}
+
+pub fn texture_count(s: &[u8]) -> usize
+    requires { ⌜ 12 ≤ length (now s) ⌝ }
+    ensures { λ r. ⌜ r ≡ textureCount (now (s .entry)) ⌝ }
+{
+    u16_at(s, 8)
+}
+
+pub fn contents_at(s: &[u8]) -> usize
+    requires { ⌜ 12 ≤ length (now s) ⌝ }
+    ensures { λ r. ⌜ r ≡ contentsAt (now (s .entry)) ⌝ }
+{
+    12 + u16_at(s, 0) * 28
+}
+
+pub fn targets_at(s: &[u8]) -> usize
+    requires { ⌜ 12 ≤ length (now s) ⌝ }
+    ensures { λ r. ⌜ r ≡ targetsAt (now (s .entry)) ⌝ }
+{
+    12 + u16_at(s, 0) * 28 + u16_at(s, 2) * 28
+}
+
+pub fn textures_at(s: &[u8]) -> usize
+    requires { ⌜ 12 ≤ length (now s) ⌝ }
+    ensures { λ r. ⌜ r ≡ texturesAt (now (s .entry)) ⌝ }
+{
+    12 + u16_at(s, 0) * 28 + u16_at(s, 2) * 28 + u16_at(s, 4) * 14
+}
+
+// ---- rows
+
+pub fn animation_row(s: &[u8], i: usize) -> Animation
+    requires { ⌜ Checked (now s) × (i < animationCount (now s)) ⌝ }
+    ensures { λ r. ⌜ r ≡ animationRow (now (s .entry)) i ⌝ }
+{
+    let at = 12 + i * 28;
+    Animation {
+        frames: u16_at(s, at) as u16,
+        looping: byte_at(s, at + 2) == 1,
+        next: byte_at(s, at + 3) == 1,
+    }
+}
+
+pub fn content_row(s: &[u8], i: usize) -> Content
+    requires { ⌜ Checked (now s) × (i < contentCount (now s)) ⌝ }
+    ensures { λ r. ⌜ r ≡ contentRow (now (s .entry)) i ⌝ }
+{
+    let at = contents_at(s) + i * 28;
+    Content {
+        animation: byte_at(s, at),
+        kind: byte_at(s, at + 1),
+    }
+}
+
+// The target's row at a place, for loops that keep where the targets start.
+pub fn target_at(s: &[u8], at: usize) -> Target
+    requires { ⌜ at + 14 ≤ length (now s) ⌝ }
+    ensures { λ r. ⌜ r ≡ targetAt (now (s .entry)) at ⌝ }
+{
+    Target {
+        content: u16_at(s, at),
+        layer: byte_at(s, at + 2),
+        raw: byte_at(s, at + 3),
+        code: field::u32_at(s, at + 4),
+        curve: byte_at(s, at + 8),
+        first: u16_at(s, at + 10),
+        count: u16_at(s, at + 12),
+    }
+}
+
+pub fn target_row(s: &[u8], i: usize) -> Target
+    requires { ⌜ Checked (now s) × (i < targetCount (now s)) ⌝ }
+    ensures { λ r. ⌜ r ≡ targetRow (now (s .entry)) i ⌝ }
+{
+    target_at(s, targets_at(s) + i * 14)
+}
+
+// ---- names
+
+pub fn next_name<'a>(s: &'a [u8], i: usize) -> &'a [u8]
+    requires { ⌜ Checked (now s) × (i < animationCount (now s)) ⌝ }
+    ensures { λ r. ⌜ now r ≡ nextName (now (s .entry)) i ⌝ }
+{
+    field::name_at(s, 12 + i * 28 + 4)
+}
+
+pub fn content_name<'a>(s: &'a [u8], i: usize) -> &'a [u8]
+    requires { ⌜ Checked (now s) × (i < contentCount (now s)) ⌝ }
+    ensures { λ r. ⌜ now r ≡ contentName (now (s .entry)) i ⌝ }
+{
+    field::name_at(s, contents_at(s) + i * 28 + 4)
+}
+
+pub fn texture_name<'a>(s: &'a [u8], i: usize) -> &'a [u8]
+    requires { ⌜ Checked (now s) × (i < textureCount (now s)) ⌝ }
+    ensures { λ r. ⌜ now r ≡ textureName (now (s .entry)) i ⌝ }
+{
+    field::name_at(s, textures_at(s) + i * 24)
 }

@@ -1,0 +1,136 @@
+-- What a checked book tells: a record whose fields `omega` reads, and laws on its rows. Assumes nothing.
+use Prim.Native.Nat.{ℕ, _+_, _*_, _<_, _≤_}
+use mathlib.Core.List.{List}
+use mathlib.Core.Bool.{Bool, true, false, _&&_, _||_}
+use mathlib.Core.Path.{_≡_, refl}
+use native.Mathlib.Omega.{arith}
+use borrow.Author.Tests.{leb-true, ltb-true, eqb-true, ne-eqb}
+use lib.ListN.{length}
+use lib.Dec.{leb, ltb, eqb}
+use Rattle.laws.specs.Tests.{both, and-2}
+use Rattle.laws.specs.Below.{allBelow, all-at}
+use Rattle.field.specs.Read.{byteAt, u16At, finiteRow, FiniteFrom, finite-from}
+use Rattle.field.specs.Name.{emptyName, namesOk, Fields}
+use Rattle.field.specs.Same.{field-same}
+use Rattle.field.specs.Table.{distinct, not-empty}
+use Rattle.book.specs.Sizes.{paneCount, materialCount, panesAt, materialsAt, noParent}
+use Rattle.book.specs.Rows.{paneRow, paneLabel, materialName}
+use Rattle.book.specs.Book.{sizesOk, paneOk, materialOk, bookOk}
+
+-- the sizes are in their ranges, the length is theirs, and each row passed
+pub record CheckedBook (b : List ℕ) : Type 0 where
+  pub some : 1 ≤ paneCount b
+  pub panes : paneCount b ≤ 64
+  pub materials : materialCount b ≤ 32
+  pub long : length b ≡ 4 + paneCount b * 72 + materialCount b * 156
+  pub paned : allBelow (paneCount b) (paneOk b) ≡ true
+  pub made : allBelow (materialCount b) (materialOk b (materialsAt b)) ≡ true
+  pub labelled : namesOk b 4 72 (paneCount b) ≡ true
+  pub named : namesOk b (materialsAt b) 156 (materialCount b) ≡ true
+
+pub record Sized (b : List ℕ) : Type 0 where
+  pub some : 1 ≤ paneCount b
+  pub panes : paneCount b ≤ 64
+  pub materials : materialCount b ≤ 32
+  pub long : length b ≡ 4 + paneCount b * 72 + materialCount b * 156
+
+pub sized : (b : List ℕ) → sizesOk b ≡ true → Sized b
+unfolding sizesOk
+sized b e =
+    let l = both _ _ e in
+    let m = both _ _ (l .0) in
+    let p = both (leb 1 (paneCount b)) _ (m .0) in
+    record {
+      some = leb-true 1 (paneCount b) (p .0);
+      panes = leb-true (paneCount b) 64 (p .1);
+      materials = leb-true (materialCount b) 32 (m .1);
+      long = eqb-true (length b) _ (l .1);
+    }
+
+pub checked-book : (b : List ℕ) → bookOk b ≡ true → CheckedBook b
+unfolding bookOk
+checked-book b e =
+    let n = both _ _ e in
+    let l = both _ _ (n .0) in
+    let m = both _ _ (l .0) in
+    let p = both _ _ (m .0) in
+    let h = sized b (and-2 (leb 4 (length b)) _ (p .0)) in
+    record {
+      some = h .some;
+      panes = h .panes;
+      materials = h .materials;
+      long = h .long;
+      paned = p .1;
+      made = m .1;
+      labelled = l .1;
+      named = n .1;
+    }
+
+-- ---- what each test of a pane says
+record PaneOk (b : List ℕ) (i : ℕ) : Type 0 where
+  parent : (eqb (u16At b (4 + i * 72 + 24)) noParent || ltb (u16At b (4 + i * 72 + 24)) i) ≡ true
+  horizontal : leb (byteAt b (4 + i * 72 + 28)) 2 ≡ true
+  vertical : leb (byteAt b (4 + i * 72 + 29)) 2 ≡ true
+  finite : finiteRow b (4 + i * 72 + 32) 10 ≡ true
+
+pane-tests : (b : List ℕ) (i : ℕ) → paneOk b i ≡ true → PaneOk b i
+unfolding paneOk
+pane-tests b i e =
+    let f = both _ _ e in
+    let z = both _ (eqb (u16At b (4 + i * 72 + 30)) 0) (f .0) in
+    let v = both _ _ (z .0) in
+    let h = both _ _ (v .0) in
+    let p = both _ (leb (byteAt b (4 + i * 72 + 26)) 3) (h .0) in
+    record { parent = p .0; horizontal = h .1; vertical = v .1; finite = f .1 }
+
+module _ {b : List ℕ} (w : CheckedBook b) where
+  pane-row : (i : ℕ) → i < paneCount b → PaneOk b i
+  pane-row i l = pane-tests b i (all-at (paneCount b) (paneOk b) i (w .paned) l)
+
+  -- a pane's parent is none, or a smaller row
+  pub pane-parent : (i : ℕ) → i < paneCount b → (paneRow b i .parent ≡ noParent → ⊥) → paneRow b i .parent < i
+  unfolding paneRow
+  pane-parent i l n = ltb-true _ i (other (ne-eqb _ noParent n) (pane-row i l .parent))
+    where
+      other : {x y : Bool} → x ≡ false → (x || y) ≡ true → y ≡ true
+      other p q = rw p at q
+
+  -- its origins are one of the three
+  pub pane-horizontal : (i : ℕ) → i < paneCount b → paneRow b i .horizontal ≤ 2
+  unfolding paneRow
+  pane-horizontal i l = leb-true _ 2 (pane-row i l .horizontal)
+
+  pub pane-vertical : (i : ℕ) → i < paneCount b → paneRow b i .vertical ≤ 2
+  unfolding paneRow
+  pane-vertical i l = leb-true _ 2 (pane-row i l .vertical)
+
+  -- its ten floats are finite, and so are a material's fifteen
+  pub pane-finite : (i : ℕ) → i < paneCount b → FiniteFrom b (4 + i * 72 + 32) 10
+  pane-finite i l = finite-from b (4 + i * 72 + 32) 10 (pane-row i l .finite)
+
+  pub material-finite : (i : ℕ) → i < materialCount b → FiniteFrom b (materialsAt b + i * 156 + 96) 15
+  unfolding materialOk
+  material-finite i l = finite-from b (materialsAt b + i * 156 + 96) 15 (all-at (materialCount b) (materialOk b (materialsAt b)) i (w .made) l)
+
+  -- ---- names
+  -- the labels and the names are fields of the book, as a search asks
+  pub label-fields : Fields b 4 72 (paneCount b)
+  label-fields = record { within = λ i l. omega arith }
+
+  pub name-fields : Fields b (materialsAt b) 156 (materialCount b)
+  name-fields = record { within = λ i l. omega arith }
+
+  -- no label is empty, and panes with one label are one pane; materials likewise
+  pub label-given : (i : ℕ) → i < paneCount b → emptyName b (4 + i * 72) ≡ false
+  label-given i l = not-empty b 4 72 (paneCount b) (w .labelled) i l
+
+  pub label-distinct : (i j : ℕ) → i < paneCount b → j < paneCount b → paneLabel b i ≡ paneLabel b j → i ≡ j
+  unfolding paneLabel
+  label-distinct i j l m e = distinct b 4 72 (paneCount b) (w .labelled) i j l m (field-same b (4 + i * 72) b (4 + j * 72) e)
+
+  pub name-given : (i : ℕ) → i < materialCount b → emptyName b (materialsAt b + i * 156) ≡ false
+  name-given i l = not-empty b (materialsAt b) 156 (materialCount b) (w .named) i l
+
+  pub name-distinct : (i j : ℕ) → i < materialCount b → j < materialCount b → materialName b i ≡ materialName b j → i ≡ j
+  unfolding materialName
+  name-distinct i j l m e = distinct b (materialsAt b) 156 (materialCount b) (w .named) i j l m (field-same b (materialsAt b + i * 156) b (materialsAt b + j * 156) e)

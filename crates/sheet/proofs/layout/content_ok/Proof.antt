@@ -1,0 +1,58 @@
+use Rattle.sheet.specs.Sheet.{contentOk}
+use borrow.Author.Needs.{needs}
+use Rattle.sheet.proofs.layout.content_ok.Statement.{statement}
+use Rattle.sheet.proofs.layout.content_ok.Tie as tie
+
+mul-at : tie.Need-mul-at
+mul-at c = search needs
+
+add-at : tie.Need-add-at
+add-at c = search needs
+
+byte-at-requires : tie.Need-byte-at-requires
+byte-at-requires c κs = search needs
+
+add-byte-at : tie.Need-add-byte-at
+add-byte-at c = search needs
+
+byte-at-requires-2 : tie.Need-byte-at-requires-2
+byte-at-requires-2 c κs = search needs
+
+add-u16-at : tie.Need-add-u16-at
+add-u16-at c = search needs
+
+u16-at-requires : tie.Need-u16-at-requires
+u16-at-requires c κs = search needs
+
+before-requires : tie.Need-before-requires
+before-requires c κs = search needs
+
+mul-byte-at : tie.Need-mul-byte-at
+mul-byte-at c = search needs
+
+add-byte-at-2 : tie.Need-add-byte-at-2
+add-byte-at-2 c = search needs
+
+byte-at-requires-3 : tie.Need-byte-at-requires-3
+byte-at-requires-3 c κs = search needs
+
+returns : tie.Need-returns
+unfolding contentOk
+returns c = cc
+
+pub content-ok-spec : {M : Type 1} → statement M
+content-ok-spec =
+    tie.close
+    (tie.spec
+    mul-at
+    add-at
+    byte-at-requires
+    add-byte-at
+    byte-at-requires-2
+    add-u16-at
+    u16-at-requires
+    before-requires
+    mul-byte-at
+    add-byte-at-2
+    byte-at-requires-3
+    returns)

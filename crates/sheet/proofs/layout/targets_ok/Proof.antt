@@ -1,0 +1,72 @@
+use native.Mathlib.Omega.{arith}
+use Prim.Native.Nat.{_-_, _*_, _≤_}
+use mathlib.Core.Path.{_≡_, sym}
+use Rattle.laws.specs.Below.{Passed, passed-none, passed-more, passed-not, passed-all}
+use Rattle.laws.specs.Sum.{sumBelow, sum-none, sum-more}
+use Rattle.sheet.specs.Sheet.{keysOf, targetOk, targetsOk}
+use Rattle.sheet.proofs.layout.targets_ok.Statement.{statement}
+use Rattle.sheet.proofs.layout.targets_ok.Tie as tie
+
+abbrev Inv-loop : tie.InvT-loop
+Inv-loop s base c n k sum₀ i₀ sum i = Passed n (targetOk s base c) i × ((sum ≡ sumBelow i (keysOf s base)) × (sum ≤ i * 65535))
+
+abbrev μ-loop : tie.MeasureT-loop
+μ-loop s base c n k sum₀ i₀ sum i = n - i
+
+loop-holds : tie.Need-loop-holds Inv-loop μ-loop
+loop-holds c = (passed-none _ _, (sym (sum-none _), omega arith))
+
+target-from-requires : tie.Need-target-from-requires Inv-loop μ-loop
+target-from-requires c κs = omega arith
+
+mul-u16-at : tie.Need-mul-u16-at Inv-loop μ-loop
+mul-u16-at c = omega arith
+
+add-u16-at : tie.Need-add-u16-at Inv-loop μ-loop
+add-u16-at c = omega arith
+
+add-u16-at-2 : tie.Need-add-u16-at-2 Inv-loop μ-loop
+add-u16-at-2 c = omega arith
+
+u16-at-requires : tie.Need-u16-at-requires Inv-loop μ-loop
+u16-at-requires c κs = omega arith
+
+add-sum : tie.Need-add-sum Inv-loop μ-loop
+add-sum c = omega arith
+
+add-i : tie.Need-add-i Inv-loop μ-loop
+add-i c = omega arith
+
+loop-less : tie.Need-loop-less Inv-loop μ-loop
+loop-less c = omega arith
+
+loop-again : tie.Need-loop-again Inv-loop μ-loop
+unfolding targetOk keysOf
+loop-again c = (passed-more (c .before .before .before .before .loop .inv .0) (omega arith) (cc), (rw sum-more (cc), omega arith))
+
+returns : tie.Need-returns Inv-loop μ-loop
+unfolding targetsOk targetOk
+returns c = rw (← passed-not (c .before .before .before .loop .inv .0) (omega arith) (cc))
+
+returns-2 : tie.Need-returns-2 Inv-loop μ-loop
+unfolding targetsOk
+returns-2 c = let e : c .before .loop .i ≡ c .before .before .before .args .n = omega arith in rw (← passed-all (c .before .loop .inv .0) (omega arith)) (cc)
+
+pub targets-ok-spec : {M : Type 1} → statement M
+targets-ok-spec =
+    tie.close
+    (tie.spec
+    Inv-loop
+    μ-loop
+    loop-holds
+    target-from-requires
+    mul-u16-at
+    add-u16-at
+    add-u16-at-2
+    u16-at-requires
+    add-sum
+    add-i
+    loop-less
+    loop-again
+    returns
+    returns-2)

@@ -1,0 +1,148 @@
+// Whether a slice of bytes is a sheet, its key rules apart: row 1 of the table of refusals.
+// A row's check has no early way out, so that its fields are read side by side; the loops over rows have one.
+use field::byte_at;
+use field::u16_at;
+ghost use mathlib.Core.Path.{_≡_};
+ghost use Prim.Native.Nat.{ℕ, _+_, _-_, _*_, _<_, _≤_};
+ghost use lib.ListN.{length};
+ghost use Rattle.laws.specs.Below.{allBelow};
+ghost use Rattle.sheet.specs.Sheet.{sizesOk, lengthOk, animationOk, contentOk, targetFrom, targetsOk, sheetOk};
+
+fn sizes_ok(s: &[u8]) -> bool
+    requires { ⌜ 12 ≤ length (now s) ⌝ }
+    ensures { λ r. ⌜ r ≡ sizesOk (now (s .entry)) ⌝ }
+{
+    let a = u16_at(s, 0);
+    (1 <= a)
+        & (a <= 8)
+        & (u16_at(s, 2) <= 64)
+        & (u16_at(s, 4) <= 256)
+        & (u16_at(s, 6) <= 2048)
+        & (u16_at(s, 8) <= 64)
+        & (u16_at(s, 10) == 0)
+}
+
+fn length_ok(s: &[u8]) -> bool
+    requires { ⌜ 12 ≤ length (now s) ⌝ }
+    ensures { λ r. ⌜ r ≡ lengthOk (now (s .entry)) ⌝ }
+{
+    s.len()
+        == 12
+            + u16_at(s, 0) * 28
+            + u16_at(s, 2) * 28
+            + u16_at(s, 4) * 14
+            + u16_at(s, 8) * 24
+            + u16_at(s, 6) * 12
+}
+
+fn animation_ok(s: &[u8], i: usize) -> bool
+    requires { ⌜ 12 + i * 28 + 28 ≤ length (now s) ⌝ }
+    ensures { λ r. ⌜ r ≡ animationOk (now (s .entry)) i ⌝ }
+{
+    let at = 12 + i * 28;
+    let next = byte_at(s, at + 3);
+    (byte_at(s, at + 2) <= 1) & (next <= 1) & ((next == 1) | field::empty_name(s, at + 4))
+}
+
+fn animations_ok(s: &[u8], n: usize) -> bool
+    requires { ⌜ 12 + n * 28 ≤ length (now s) ⌝ }
+    ensures { λ r. ⌜ r ≡ allBelow n (animationOk (now (s .entry))) ⌝ }
+{
+    let mut i = 0;
+    while i < n {
+        if animation_ok(s, i) {
+            i += 1;
+        } else {
+            return false;
+        }
+    }
+    true
+}
+
+// The row before i, which for row 0 is row 0 itself.
+fn before(i: usize) -> usize
+    ensures { λ r. ⌜ r ≡ i - 1 ⌝ }
+{
+    if i == 0 { 0 } else { i - 1 }
+}
+
+fn content_ok(s: &[u8], base: usize, a: usize, i: usize) -> bool
+    requires { ⌜ base + i * 28 + 28 ≤ length (now s) ⌝ }
+    ensures { λ r. ⌜ r ≡ contentOk (now (s .entry)) base a i ⌝ }
+{
+    let at = base + i * 28;
+    let own = byte_at(s, at);
+    (byte_at(s, at + 1) <= 4)
+        & (u16_at(s, at + 2) == 0)
+        & (own < a)
+        & (byte_at(s, base + before(i) * 28) <= own)
+}
+
+fn contents_ok(s: &[u8], base: usize, a: usize, n: usize) -> bool
+    requires { ⌜ base + n * 28 ≤ length (now s) ⌝ }
+    ensures { λ r. ⌜ r ≡ allBelow n (contentOk (now (s .entry)) base a) ⌝ }
+{
+    let mut i = 0;
+    while i < n {
+        if content_ok(s, base, a, i) {
+            i += 1;
+        } else {
+            return false;
+        }
+    }
+    true
+}
+
+fn target_from(s: &[u8], base: usize, c: usize, i: usize, f: usize) -> bool
+    requires { ⌜ base + i * 14 + 14 ≤ length (now s) ⌝ }
+    ensures { λ r. ⌜ r ≡ targetFrom (now (s .entry)) base c i f ⌝ }
+{
+    let at = base + i * 14;
+    let own = u16_at(s, at);
+    (byte_at(s, at + 8) <= 2)
+        & (byte_at(s, at + 9) == 0)
+        & (own < c)
+        & (u16_at(s, base + before(i) * 14) <= own)
+        & (u16_at(s, at + 10) == f)
+}
+
+// `sum` is the sum of the earlier counts.
+fn targets_ok(s: &[u8], base: usize, c: usize, n: usize, k: usize) -> bool
+    requires { ⌜ (base + n * 14 ≤ length (now s)) × (n < 65536) ⌝ }
+    ensures { λ r. ⌜ r ≡ targetsOk (now (s .entry)) base c n k ⌝ }
+{
+    let mut sum = 0usize;
+    let mut i = 0;
+    while i < n {
+        if target_from(s, base, c, i, sum) {
+            sum += u16_at(s, base + i * 14 + 12);
+            i += 1;
+        } else {
+            return false;
+        }
+    }
+    sum == k
+}
+
+// Whether s is a sheet, its key rules apart.
+pub fn sheet_ok(s: &[u8]) -> bool
+    ensures { λ r. ⌜ r ≡ sheetOk (now (s .entry)) ⌝ }
+{
+    if s.len() < 12 {
+        return false;
+    }
+    if !sizes_ok(s) {
+        return false;
+    }
+    if !length_ok(s) {
+        return false;
+    }
+    let a = u16_at(s, 0);
+    let c = u16_at(s, 2);
+    let t = u16_at(s, 4);
+    let contents = 12 + a * 28;
+    let targets = contents + c * 28;
+    animations_ok(s, a)
+        & contents_ok(s, contents, a, c)
+        & targets_ok(s, targets, c, t, u16_at(s, 6))
+}
