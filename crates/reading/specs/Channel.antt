@@ -9,7 +9,8 @@ use Rattle.laws.specs.declared.Found.the-variants as found
 use Rattle.field.specs.Name.{findName}
 use Rattle.sheet.specs.Sizes.{contentCount, contentsAt}
 use Rattle.sheet.specs.Rows.{contentRow, targetRow}
-use Rattle.book.specs.Book.{paneCount, materialCount, panesAt, materialsAt}
+use Rattle.sheet.specs.declared.rows.Target.{Target}
+use Rattle.book.specs.Sizes.{paneCount, materialCount, panesAt, materialsAt}
 use Rattle.reading.specs.declared.Family.{Family}
 use Rattle.reading.specs.declared.Family.the-variants.{PaneSrt, Visibility, VertexColor, TextureSrt, TexturePattern, IndirectSrt, AlphaCompare, MaterialColor, Other}
 use Rattle.reading.specs.declared.Reached.{Reached}
@@ -100,7 +101,7 @@ asMaterial found.Nothing = reached.Nothing
 
 -- the pane with the content's name as its label, and the material of its name
 unfoldable pub paneNamed : List ℕ → List ℕ → ℕ → Found
-paneNamed s b c = findName b (panesAt b) 72 (paneCount b) s (contentsAt s + c * 28 + 4)
+paneNamed s b c = findName b panesAt 72 (paneCount b) s (contentsAt s + c * 28 + 4)
 
 unfoldable pub materialNamed : List ℕ → List ℕ → ℕ → Found
 materialNamed s b c = findName b (materialsAt b) 156 (materialCount b) s (contentsAt s + c * 28 + 4)
@@ -126,13 +127,16 @@ abbrev pub inMaterial : List ℕ → ℕ → Found → Found
 inMaterial b m (found.At c) = found.At (ofMaterial b m c)
 inMaterial b m found.Nothing = found.Nothing
 
--- the channel that a code, a raw number and a layer address in the row that is reached
+-- the channel that a family, a raw number and a layer address in the row that is reached; any other pairing addresses nothing
 unfoldable pub address : List ℕ → Reached → Family → ℕ → ℕ → Found
 address b (reached.Pane p) f raw layer = inPane p (paneChannel f raw)
 address b (reached.Material m) f raw layer = inMaterial b m (materialChannel f raw layer)
 address b reached.Nothing f raw layer = found.Nothing
 
+-- the channel that a target's row addresses in the row that is reached
+unfoldable pub rowChannel : List ℕ → Reached → Target → Found
+rowChannel b r row = address b r (familyOf (row .code)) (row .raw) (row .layer)
+
 -- the channel that target t addresses while animation a is active
 unfoldable pub targetChannel : List ℕ → List ℕ → ℕ → ℕ → Found
-targetChannel s b a t =
-    address b (activeReach s b a (targetRow s t .content)) (familyOf (targetRow s t .code)) (targetRow s t .raw) (targetRow s t .layer)
+targetChannel s b a t = rowChannel b (activeReach s b a (targetRow s t .content)) (targetRow s t)

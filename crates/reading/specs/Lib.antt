@@ -1,3 +1,5 @@
 -- Document 01, "Channels": which channel a target addresses, and what a channel reads.
 pub mod Channel
 pub mod Reading
+pub mod Ready
+pub mod Within

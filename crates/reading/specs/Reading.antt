@@ -15,6 +15,7 @@ use Rattle.float.specs.Clamp.{clampOf}
 use Rattle.float.specs.Whole.{wholeOf}
 use Rattle.sheet.specs.Sizes.{targetCount, textureCount}
 use Rattle.sheet.specs.Rows.{targetRow}
+use Rattle.sheet.specs.declared.rows.Target.{Target}
 use Rattle.curve.specs.Curve.{evalPart, evalPartStepU16}
 use Rattle.reading.specs.Channel.{familyOf, targetChannel, channelCount}
 use Rattle.reading.specs.declared.Family.{Family}
@@ -28,12 +29,12 @@ use Rattle.reading.specs.declared.Reading.the-variants.{Nothing, Number,
 abbrev pub full : Float
 full = # 0x437f_0000
 
--- the target's curve at x, plain and as u16
-unfoldable pub valueAt : List ℕ → List Float → List Float → List Float → Float → ℕ → Float
-valueAt s fs vs ss x t = evalPart (targetRow s t .curve) (targetRow s t .first) (targetRow s t .count) fs vs ss x
+-- the curve of a target's row at x, plain and as u16
+unfoldable pub valueAt : List Float → List Float → List Float → Float → Target → Float
+valueAt fs vs ss x row = evalPart (row .curve) (row .first) (row .count) fs vs ss x
 
-unfoldable pub value16At : List ℕ → List Float → List Float → List Float → Float → ℕ → ℕ
-value16At s fs vs ss x t = evalPartStepU16 (targetRow s t .curve) (targetRow s t .first) (targetRow s t .count) fs vs ss x
+unfoldable pub value16At : List Float → List Float → List Float → Float → Target → ℕ
+value16At fs vs ss x row = evalPartStepU16 (row .curve) (row .first) (row .count) fs vs ss x
 
 -- a colour's level: nearest whole held to 0..255, NaN to 0
 unfoldable pub levelOf : Float → ℕ
@@ -56,8 +57,13 @@ readAs family.AlphaCompare v n x = Number v
 readAs family.MaterialColor v n x = Level (levelOf v)
 readAs family.Other v n x = Nothing
 
+-- what a target's row reads at x, with n texture names
+unfoldable pub rowReading : ℕ → List Float → List Float → List Float → Float → Target → Reading
+rowReading n fs vs ss x row = readAs (familyOf (row .code)) (valueAt fs vs ss x row) (value16At fs vs ss x row) n
+
+-- what target t reads
 unfoldable pub targetReading : List ℕ → List Float → List Float → List Float → Float → ℕ → Reading
-targetReading s fs vs ss x t = readAs (familyOf (targetRow s t .code)) (valueAt s fs vs ss x t) (value16At s fs vs ss x t) (textureCount s)
+targetReading s fs vs ss x t = rowReading (textureCount s) fs vs ss x (targetRow s t)
 
 -- ---- the last-target rule
 

@@ -2,9 +2,17 @@
 use crate::Family;
 use crate::Reached;
 use laws::Found;
+use sheet::Target;
 ghost use mathlib.Core.Path.{_≡_};
 ghost use Prim.Native.Nat.{ℕ, _<_};
-ghost use Rattle.reading.specs.Channel.{familyOf, listed, paneChannel, colourPlace, materialChannel};
+ghost use Rattle.book.specs.Checked.{CheckedBook};
+ghost use Rattle.reading.specs.Channel.{familyOf, listed, paneChannel, colourPlace, materialChannel, address, rowChannel};
+ghost use Rattle.reading.specs.Within.{ReachedIn};
+
+// How many channels a pane has, and a material.
+const PANE_CHANNELS: usize = 28;
+
+const MATERIAL_CHANNELS: usize = 30;
 
 // The four letters of a code as one number, little-endian.
 const FLPA: u32 = 0x4150_4c46;
@@ -23,7 +31,7 @@ const FLAC: u32 = 0x4341_4c46;
 
 const FLMC: u32 = 0x434d_4c46;
 
-fn family_of(code: u32) -> Family
+pub fn family_of(code: u32) -> Family
     ensures { λ r. ⌜ r ≡ familyOf code ⌝ }
 {
     match code {
@@ -97,4 +105,33 @@ fn material_channel(f: Family, raw: usize, layer: usize) -> Found
         Family::MaterialColor => Found::At(22 + colour_place(listed(28, raw))),
         _ => Found::Nothing,
     }
+}
+
+// A channel of the row that is reached.
+fn address(b: &[u8], r: Reached, f: Family, raw: usize, layer: usize) -> Found
+    requires { ⌜ CheckedBook (now b) × ReachedIn (now b) r ⌝ }
+    ensures { λ o. ⌜ o ≡ address (now (b .entry)) r f raw layer ⌝ }
+{
+    match r {
+        Reached::Pane(p) => {
+            let Found::At(c) = pane_channel(f, raw) else {
+                return Found::Nothing;
+            };
+            Found::At(p * PANE_CHANNELS + c)
+        }
+        Reached::Material(m) => {
+            let Found::At(c) = material_channel(f, raw, layer) else {
+                return Found::Nothing;
+            };
+            Found::At(book::pane_count(b) * PANE_CHANNELS + m * MATERIAL_CHANNELS + c)
+        }
+        Reached::Nothing => Found::Nothing,
+    }
+}
+
+pub fn row_channel(b: &[u8], r: Reached, row: Target) -> Found
+    requires { ⌜ CheckedBook (now b) × ReachedIn (now b) r ⌝ }
+    ensures { λ o. ⌜ o ≡ rowChannel (now (b .entry)) r row ⌝ }
+{
+    address(b, r, family_of(row.code), row.raw, row.layer)
 }

@@ -7,7 +7,8 @@ use lib.ListN.{getD}
 use lib.Ieee.{Float}
 use Rattle.laws.specs.Grown.{grow}
 use Rattle.float.specs.Numbers.{one', _⊗_}
-use Rattle.book.specs.Book.{paneCount, paneAt}
+use Rattle.book.specs.Sizes.{paneCount, noParent}
+use Rattle.book.specs.Rows.{paneRow}
 use Rattle.resolve.specs.Resolve.{visibleOf, alphaOf}
 use Rattle.reading.specs.declared.Active.{Active}
 use Rattle.resolve.specs.declared.Cascaded.{Cascaded}
@@ -27,12 +28,12 @@ under above visible alpha influences =
 
 -- the row above, among the earlier rows; a parent of 65,535 is none
 unfoldable pub above : List Cascaded → ℕ → Cascaded
-above rows parent = cond (eqb parent 65535) root (getD rows parent root)
+above rows parent = cond (eqb parent noParent) root (getD rows parent root)
 
 module _ (s b : List ℕ) (fs vs ss : List Float) (a : Active) where
   -- row p, from the rows before it
   unfoldable pub rowOf : List Cascaded → ℕ → Cascaded
-  rowOf rows p = under (above rows (paneAt b p .parent)) (visibleOf s b fs vs ss a p) (alphaOf s b fs vs ss a p) (paneAt b p .influences)
+  rowOf rows p = under (above rows (paneRow b p .parent)) (visibleOf s b fs vs ss a p) (alphaOf s b fs vs ss a p) (paneRow b p .influences)
 
   -- all rows
   unfoldable pub cascade : List Cascaded

@@ -5,10 +5,9 @@ use mathlib.Core.List.{List}
 use lib.IntN.{pos}
 use lib.Ieee.{Float, binary32, ofInt}
 use Rattle.float.specs.Numbers.{_⊘_}
-use Rattle.field.specs.Name.{nameAt}
 use Rattle.sheet.specs.Rows.{textureName}
-use Rattle.book.specs.Book.{paneAt, srtAt, slotNameAt}
-use Rattle.book.specs.declared.Srt.{Srt}
+use Rattle.book.specs.Rows.{paneRow, materialSrt, materialTexture}
+use Rattle.book.specs.declared.rows.Srt.{Srt}
 use Rattle.reading.specs.Channel.{ofPane, ofMaterial}
 use Rattle.reading.specs.Reading.{reading, full}
 use Rattle.reading.specs.declared.Active.{Active}
@@ -42,26 +41,26 @@ module _ (s b : List ℕ) (fs vs ss : List Float) (a : Active) where
       record {
         translation =
             record {
-              x = paneNumber p 0 (paneAt b p .translation .x);
-              y = paneNumber p 1 (paneAt b p .translation .y);
-              z = paneNumber p 2 (paneAt b p .translation .z);
+              x = paneNumber p 0 (paneRow b p .translation .x);
+              y = paneNumber p 1 (paneRow b p .translation .y);
+              z = paneNumber p 2 (paneRow b p .translation .z);
             };
         rotation =
             record {
-              x = paneNumber p 3 (paneAt b p .rotation .x);
-              y = paneNumber p 4 (paneAt b p .rotation .y);
-              z = paneNumber p 5 (paneAt b p .rotation .z);
+              x = paneNumber p 3 (paneRow b p .rotation .x);
+              y = paneNumber p 4 (paneRow b p .rotation .y);
+              z = paneNumber p 5 (paneRow b p .rotation .z);
             };
-        scale = record { x = paneNumber p 6 (paneAt b p .scale .x); y = paneNumber p 7 (paneAt b p .scale .y) };
-        size = record { x = paneNumber p 8 (paneAt b p .size .x); y = paneNumber p 9 (paneAt b p .size .y) };
+        scale = record { x = paneNumber p 6 (paneRow b p .scale .x); y = paneNumber p 7 (paneRow b p .scale .y) };
+        size = record { x = paneNumber p 8 (paneRow b p .size .x); y = paneNumber p 9 (paneRow b p .size .y) };
       }
 
   unfoldable pub visibleOf : ℕ → Bool
-  visibleOf p = orShown (reading s b fs vs ss a (ofPane p 10)) (paneAt b p .visible)
+  visibleOf p = orShown (reading s b fs vs ss a (ofPane p 10)) (paneRow b p .visible)
 
   -- alpha as byte / 255
   unfoldable pub alphaOf : ℕ → Float
-  alphaOf p = paneNumber p 11 (ofInt binary32 (pos (paneAt b p .alpha)) ⊘ full)
+  alphaOf p = paneNumber p 11 (ofInt binary32 (pos (paneRow b p .alpha)) ⊘ full)
 
   -- channel c of a material's layer, over what the book has
   abbrev pub layerNumber : ℕ → ℕ → ℕ → Float → Float
@@ -71,20 +70,26 @@ module _ (s b : List ℕ) (fs vs ss : List Float) (a : Active) where
   unfoldable pub srtOf : ℕ → ℕ → Srt
   srtOf m layer =
       record {
-        tu = layerNumber m layer 0 (srtAt b m layer .tu);
-        tv = layerNumber m layer 1 (srtAt b m layer .tv);
-        rotate = layerNumber m layer 2 (srtAt b m layer .rotate);
-        su = layerNumber m layer 3 (srtAt b m layer .su);
-        sv = layerNumber m layer 4 (srtAt b m layer .sv);
+        translate =
+            record {
+              x = layerNumber m layer 0 (materialSrt b m layer .translate .x);
+              y = layerNumber m layer 1 (materialSrt b m layer .translate .y);
+            };
+        rotate = layerNumber m layer 2 (materialSrt b m layer .rotate);
+        scale =
+            record {
+              x = layerNumber m layer 3 (materialSrt b m layer .scale .x);
+              y = layerNumber m layer 4 (materialSrt b m layer .scale .y);
+            };
       }
 
   -- the name's field: the sheet's texture name where a row overrides the slot, else the book's
   abbrev pub nameFor : Reading → ℕ → ℕ → List ℕ
-  nameFor Nothing m slot = nameAt b (slotNameAt b m slot)
-  nameFor (Number v) m slot = nameAt b (slotNameAt b m slot)
-  nameFor (Shown x) m slot = nameAt b (slotNameAt b m slot)
+  nameFor Nothing m slot = materialTexture b m slot
+  nameFor (Number v) m slot = materialTexture b m slot
+  nameFor (Shown x) m slot = materialTexture b m slot
   nameFor (Row k) m slot = textureName s k
-  nameFor (Level l) m slot = nameAt b (slotNameAt b m slot)
+  nameFor (Level l) m slot = materialTexture b m slot
 
   unfoldable pub textureOf : ℕ → ℕ → List ℕ
   textureOf m slot = nameFor (reading s b fs vs ss a (ofMaterial b m (15 + slot))) m slot

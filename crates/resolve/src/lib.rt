@@ -1,13 +1,13 @@
 // Channels resolved over the book, and the cascade over its panes (document 01, "Channels").
-use book::Vector2f;
-use book::Vector3f;
+use book::Vector2;
+use book::Vector3;
 
 // The Rust's ResolvedPaneTransform.
 pub struct Transform {
-    pub translation: Vector3f,
-    pub rotation: Vector3f,
-    pub scale: Vector2f,
-    pub size: Vector2f,
+    pub translation: Vector3,
+    pub rotation: Vector3,
+    pub scale: Vector2,
+    pub size: Vector2,
 }
 
 // What the cascade gives a pane: whether it is shown, its alpha, and the influence that it hands its children.
