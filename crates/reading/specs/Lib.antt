@@ -3,3 +3,4 @@ pub mod Channel
 pub mod Reading
 pub mod Ready
 pub mod Within
+pub mod Held

@@ -1,5 +1,6 @@
 // What an animation at a frame does to the panes and materials of a book (document 01, "Channels").
 mod channel;
+mod reach;
 mod value;
 
 // A target's family, by its four-letter code.
