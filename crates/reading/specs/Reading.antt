@@ -102,3 +102,10 @@ marksOf s b fs vs ss a = table (channelCount b) (λ c. markOf (reading s b fs vs
 
 unfoldable pub numbersOf : List ℕ → List ℕ → List Float → List Float → List Float → Active → List Float
 numbersOf s b fs vs ss a = table (channelCount b) (λ c. numberOf (reading s b fs vs ss a c))
+
+-- the entries of cleared tables
+abbrev pub noMark : ℕ → ℕ
+noMark c = 0
+
+abbrev pub noNumber : ℕ → Float
+noNumber c = zero'

@@ -2,6 +2,9 @@
 mod channel;
 mod reach;
 mod value;
+mod whole;
+
+pub use whole::read_all;
 
 // A target's family, by its four-letter code.
 pub enum Family {

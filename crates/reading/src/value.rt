@@ -24,7 +24,7 @@ fn row_of(n: u16, textures: usize) -> Reading
 }
 
 // What a target of a family reads where its curve's value is v.
-fn read_as(f: Family, v: f32, textures: usize) -> Reading
+pub fn read_as(f: Family, v: f32, textures: usize) -> Reading
     ensures { λ r. ⌜ r ≡ readAs f v (toUnsigned 16 v) textures ⌝ }
 {
     match f {
