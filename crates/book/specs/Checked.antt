@@ -17,22 +17,20 @@ use Rattle.book.specs.Sizes.{paneCount, materialCount, panesAt, material
 use Rattle.book.specs.Rows.{paneRow, paneLabel, materialName}
 use Rattle.book.specs.Book.{sizesOk, paneOk, materialOk, bookOk}
 
--- the sizes are in their ranges, the length is theirs, and each row passed
-pub record CheckedBook (b : List ℕ) : Type 0 where
-  pub some : 1 ≤ paneCount b
-  pub panes : paneCount b ≤ 64
-  pub materials : materialCount b ≤ 32
-  pub long : length b ≡ 4 + paneCount b * 72 + materialCount b * 156
-  pub paned : allBelow (paneCount b) (paneOk b) ≡ true
-  pub made : allBelow (materialCount b) (materialOk b (materialsAt b)) ≡ true
-  pub labelled : namesOk b 4 72 (paneCount b) ≡ true
-  pub named : namesOk b (materialsAt b) 156 (materialCount b) ≡ true
-
+-- the sizes are in their ranges, and the length is theirs
 pub record Sized (b : List ℕ) : Type 0 where
   pub some : 1 ≤ paneCount b
   pub panes : paneCount b ≤ 64
   pub materials : materialCount b ≤ 32
   pub long : length b ≡ 4 + paneCount b * 72 + materialCount b * 156
+
+-- and each row passed
+pub record CheckedBook (b : List ℕ) : Type 0 where
+  pub sizes : Sized b
+  pub paned : allBelow (paneCount b) (paneOk b) ≡ true
+  pub made : allBelow (materialCount b) (materialOk b (materialsAt b)) ≡ true
+  pub labelled : namesOk b 4 72 (paneCount b) ≡ true
+  pub named : namesOk b (materialsAt b) 156 (materialCount b) ≡ true
 
 pub sized : (b : List ℕ) → sizesOk b ≡ true → Sized b
 unfolding sizesOk
@@ -54,17 +52,7 @@ checked-book b e =
     let l = both _ _ (n .0) in
     let m = both _ _ (l .0) in
     let p = both _ _ (m .0) in
-    let h = sized b (and-2 (leb 4 (length b)) _ (p .0)) in
-    record {
-      some = h .some;
-      panes = h .panes;
-      materials = h .materials;
-      long = h .long;
-      paned = p .1;
-      made = m .1;
-      labelled = l .1;
-      named = n .1;
-    }
+    record { sizes = sized b (and-2 (leb 4 (length b)) _ (p .0)); paned = p .1; made = m .1; labelled = l .1; named = n .1 }
 
 -- ---- what each test of a pane says
 record PaneOk (b : List ℕ) (i : ℕ) : Type 0 where

@@ -1,11 +1,14 @@
 // The sizes and the rows of a book, by value, and the names in it, as parts of the lent slice. The rows ask for a checked book.
+use field::byte_at;
+use field::f32_at;
 use field::u16_at;
 ghost use mathlib.Core.Path.{_≡_};
 ghost use Prim.Native.Nat.{ℕ, _+_, _*_, _<_, _≤_};
 ghost use lib.ListN.{length};
 ghost use Rattle.book.specs.Sizes.{paneCount, materialCount, materialsAt};
-ghost use Rattle.book.specs.Rows.{paneLabel, materialName, materialTexture};
+ghost use Rattle.book.specs.Rows.{vector2At, vector3At, paneRow, materialSrt, paneLabel, materialName, materialTexture};
 ghost use Rattle.book.specs.Checked.{CheckedBook};
+ghost use Rattle.field.specs.Read.{FiniteFrom};
 
 pub struct Vector2 {
     pub x: f32,
@@ -61,6 +64,60 @@ pub fn materials_at(b: &[u8]) -> usize
 }
 
 // ---- rows
+
+fn vector2_at(b: &[u8], at: usize) -> Vector2
+    requires { ⌜ (at + 8 ≤ length (now b)) × FiniteFrom (now b) at 2 ⌝ }
+    ensures { λ r. ⌜ r ≡ vector2At (now (b .entry)) at ⌝ }
+{
+    Vector2 {
+        x: f32_at(b, at),
+        y: f32_at(b, at + 4),
+    }
+}
+
+fn vector3_at(b: &[u8], at: usize) -> Vector3
+    requires { ⌜ (at + 12 ≤ length (now b)) × FiniteFrom (now b) at 3 ⌝ }
+    ensures { λ r. ⌜ r ≡ vector3At (now (b .entry)) at ⌝ }
+{
+    Vector3 {
+        x: f32_at(b, at),
+        y: f32_at(b, at + 4),
+        z: f32_at(b, at + 8),
+    }
+}
+
+pub fn pane_row(b: &[u8], i: usize) -> Pane
+    requires { ⌜ CheckedBook (now b) × (i < paneCount (now b)) ⌝ }
+    ensures { λ r. ⌜ r ≡ paneRow (now (b .entry)) i ⌝ }
+{
+    let at = 4 + i * 72;
+    let flags = byte_at(b, at + 26);
+    Pane {
+        parent: u16_at(b, at + 24),
+        visible: flags % 2 == 1,
+        influences: flags / 2 % 2 == 1,
+        alpha: byte_at(b, at + 27) as u8,
+        horizontal: byte_at(b, at + 28),
+        vertical: byte_at(b, at + 29),
+        translation: vector3_at(b, at + 32),
+        rotation: vector3_at(b, at + 44),
+        scale: vector2_at(b, at + 56),
+        size: vector2_at(b, at + 64),
+    }
+}
+
+// SRT j of material i.
+pub fn material_srt(b: &[u8], i: usize, j: usize) -> Srt
+    requires { ⌜ CheckedBook (now b) × ((i < materialCount (now b)) × (j < 3)) ⌝ }
+    ensures { λ r. ⌜ r ≡ materialSrt (now (b .entry)) i j ⌝ }
+{
+    let at = materials_at(b) + i * 156 + 96 + j * 20;
+    Srt {
+        translate: vector2_at(b, at),
+        rotate: f32_at(b, at + 8),
+        scale: vector2_at(b, at + 12),
+    }
+}
 
 // ---- names
 

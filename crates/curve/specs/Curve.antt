@@ -46,11 +46,11 @@ curveTaken kind fs x =
     (cond (eqb kind kindConstant) (constantTaken (length fs) x)
     (cond (eqb kind kindStep) (stepTaken fs x) (hermiteTaken fs x)))
 
--- how many keys from the front hold those taken
-abbrev pub reach : Taken → ℕ
-reach Nothing = 0
-reach (One i) = i + 1
-reach (Two i) = i + 2
+-- one past the last key taken
+abbrev pub takenEnd : Taken → ℕ
+takenEnd Nothing = 0
+takenEnd (One i) = i + 1
+takenEnd (Two i) = i + 2
 
 -- the value from the keys taken: 0.0 from none, a key's own, or between a key and the next
 unfoldable pub valueOf : List Float → List Float → List Float → Float → Taken → Float

@@ -2,12 +2,12 @@
 // The keys are lent as three f32 slices; one target's curve owns a part of each.
 ghost use mathlib.Core.Path.{_≡_};
 ghost use mathlib.Core.Bool.{true};
-ghost use Prim.Native.Nat.{ℕ, _+_, _-_, _<_, _≤_};
+ghost use Prim.Native.Nat.{_+_, _-_, _<_, _≤_};
 ghost use lib.ListN.{length};
 ghost use Rattle.float.specs.Rising.{rising};
 ghost use Rattle.curve.specs.Keys.{partOf, keyAt, before};
 ghost use Rattle.curve.specs.Span.{spanOf};
-ghost use Rattle.curve.specs.Curve.{kindHermite, hermiteTaken, curveTaken, valueOf, reach, Ordered};
+ghost use Rattle.curve.specs.Curve.{kindHermite, hermiteTaken, curveTaken, valueOf, takenEnd, Ordered};
 ghost use Rattle.curve.specs.Curve.{Readable, ReadablePart, evalCurve, hermite, evalCurveStepU16, evalPart, evalPartStepU16};
 
 // A curve's kind, as a target's row of the sheet has it.
@@ -17,6 +17,7 @@ pub const STEP: u8 = 1;
 
 pub const HERMITE: u8 = 2;
 
+// A key, by value.
 pub struct Key {
     pub frame: f32,
     pub value: f32,
@@ -39,6 +40,7 @@ pub fn part<'a>(keys: &'a [f32], first: usize, count: usize) -> &'a [f32]
     &keys[first..end]
 }
 
+// Key i of three slices.
 pub fn key_at(frames: &[f32], values: &[f32], slopes: &[f32], i: usize) -> Key
     requires { ⌜ (i < length (now frames)) × (i < length (now values)) × (i < length (now slopes)) ⌝ }
     ensures { λ r. ⌜ r ≡ keyAt (now (frames .entry)) (now (values .entry)) (now (slopes .entry)) i ⌝ }
@@ -50,7 +52,7 @@ pub fn key_at(frames: &[f32], values: &[f32], slopes: &[f32], i: usize) -> Key
     }
 }
 
-// How many keys stand at or before x, by halves: the frames never fall.
+// How many keys are at or before x, by halves: the frames never fall.
 pub fn count_before(frames: &[f32], x: f32) -> usize
     requires { ⌜ rising (now frames) ≡ true ⌝ }
     ensures { λ r. ⌜ r ≡ before (now (frames .entry)) x ⌝ }
@@ -83,7 +85,16 @@ fn span(k0: Key, k1: Key, x: f32) -> f32
     h00 * k0.value + h10 * dt * k0.slope + h01 * k1.value + h11 * dt * k1.slope
 }
 
-// Which keys a Hermite curve is read from at x: at a start of equal frames the first.
+// The last key at or before x, else key 0.
+fn last_before(frames: &[f32], x: f32) -> usize
+    requires { ⌜ rising (now frames) ≡ true ⌝ }
+    ensures { λ r. ⌜ r ≡ before (now (frames .entry)) x - 1 ⌝ }
+{
+    let n = count_before(frames, x);
+    if n == 0 { 0 } else { n - 1 }
+}
+
+// The keys that a Hermite curve takes at x. At a start of equal frames that is the first, so key 0 is tested before the search.
 fn hermite_taken(frames: &[f32], x: f32) -> Taken
     requires { ⌜ (0 < length (now frames)) × (rising (now frames) ≡ true) ⌝ }
     ensures { λ r. ⌜ r ≡ hermiteTaken (now (frames .entry)) x ⌝ }
@@ -96,13 +107,14 @@ fn hermite_taken(frames: &[f32], x: f32) -> Taken
         return Taken::One(last);
     }
     let n = count_before(frames, x);
+    // x is a NaN
     if n == 0 {
         return Taken::One(0);
     }
     Taken::Two(n - 1)
 }
 
-// Which keys a curve is read from at x.
+// The keys that a curve of this kind takes at x.
 fn curve_taken(kind: u8, frames: &[f32], x: f32) -> Taken
     requires { ⌜ Ordered kind (now frames) ⌝ }
     ensures { λ r. ⌜ r ≡ curveTaken kind (now (frames .entry)) x ⌝ }
@@ -120,18 +132,9 @@ fn curve_taken(kind: u8, frames: &[f32], x: f32) -> Taken
     hermite_taken(frames, x)
 }
 
-// The last key at or before x, else key 0.
-fn last_before(frames: &[f32], x: f32) -> usize
-    requires { ⌜ rising (now frames) ≡ true ⌝ }
-    ensures { λ r. ⌜ r ≡ before (now (frames .entry)) x - 1 ⌝ }
-{
-    let n = count_before(frames, x);
-    if n == 0 { 0 } else { n - 1 }
-}
-
 // The value from the keys taken.
 fn value_of(frames: &[f32], values: &[f32], slopes: &[f32], x: f32, t: Taken) -> f32
-    requires { ⌜ (reach t ≤ length (now frames)) × (length (now values) ≡ length (now frames)) × (length (now slopes) ≡ length (now frames)) ⌝ }
+    requires { ⌜ (takenEnd t ≤ length (now frames)) × (length (now values) ≡ length (now frames)) × (length (now slopes) ≡ length (now frames)) ⌝ }
     ensures { λ r. ⌜ r ≡ valueOf (now (frames .entry)) (now (values .entry)) (now (slopes .entry)) x t ⌝ }
 {
     match t {
@@ -162,7 +165,7 @@ pub fn eval_hermite(frames: &[f32], values: &[f32], slopes: &[f32], x: f32) -> f
     eval_curve(HERMITE, frames, values, slopes, x)
 }
 
-// The Rust's eval_curve_step_u16: the same as u16.
+// The Rust's eval_curve_step_u16. A Step value is whole, so its cut is the value itself.
 pub fn eval_curve_step_u16(kind: u8, frames: &[f32], values: &[f32], slopes: &[f32], x: f32) -> u16
     requires { ⌜ Readable kind (now frames) (now values) (now slopes) ⌝ }
     ensures { λ r. ⌜ r ≡ evalCurveStepU16 kind (now (frames .entry)) (now (values .entry)) (now (slopes .entry)) x ⌝ }
@@ -192,6 +195,7 @@ pub fn eval_part(
     )
 }
 
+// The same as u16.
 pub fn eval_part_step_u16(
     kind: u8,
     frames: &[f32],

@@ -1,12 +1,14 @@
 -- Laws on bit patterns and on the test `x != x`, which other crates cite.
 use Prim.Native.Nat.{ℕ, zero, suc, _+_, _%_, _/_}
 use mathlib.Core.Path.{_≡_, refl, sym, ap, _∙_, subst}
-use mathlib.Core.Bool.{Bool, true, false, not, cond, _&&_}
+use mathlib.Core.Bool.{Bool, true, false, not, cond}
 use lib.Dec.{T, eqb}
 use lib.Ieee.{Float, nan, inf, fin, binary32, isNan, eq, ne, fits, toBits, ofBits, ofFields, odd, nanBits}
 use lib.Ieee.Bits.{ofBits-toBits}
+use lib.Ieee.Exact.{HasValue}
 use lib.Ieee.Compare.{differs-from-itself}
 use borrow.Author.Tests.{eqb-true, eq-eqb, not-true}
+use Rattle.laws.specs.Tests.{and-2}
 use Rattle.float.specs.Numbers.{#, real, finite, sameBits}
 
 -- ---- the test `x != x`
@@ -33,12 +35,18 @@ finite-real nan h = h
 finite-real (inf s) h = absurd h
 finite-real (fin s m e) h = tt
 
--- `real` is the library's "no NaN"
-pub real-is : (x : Float) → real x ≡ not (isNan x)
+-- what is real is no NaN
+pub real-number : (x : Float) → T (real x) → isNan x ≡ false
 unfolding isNan
-real-is nan = refl
-real-is (inf s) = refl
-real-is (fin s m e) = refl
+real-number nan r = absurd r
+real-number (inf s) r = refl
+real-number (fin s m e) r = refl
+
+-- what has the value a / c is finite
+pub value-finite : (x : Float) (s : Bool) (a c : ℕ) → HasValue x s a c → T (finite x)
+value-finite nan s a c v = absurd v
+value-finite (inf t) s a c v = absurd v
+value-finite (fin t m e) s a c v = tt
 
 -- ---- the same bits
 -- a number, or an infinity, is the same as itself
@@ -48,15 +56,11 @@ same-self nan r = absurd r
 same-self (inf s) r = eq-eqb (toBits binary32 (inf s)) (toBits binary32 (inf s)) refl
 same-self (fin s m e) r = eq-eqb (toBits binary32 (fin s m e)) (toBits binary32 (fin s m e)) refl
 
-and-r : (a b : Bool) → (a && b) ≡ true → b ≡ true
-and-r true b e = e
-and-r false b e = cc
-
 -- two f32 with the same bits are equal
 pub same-equal : (a b : Float) → T (fits binary32 a) → T (fits binary32 b) → sameBits a b ≡ true → a ≡ b
 unfolding sameBits
 same-equal a b fa fb h =
-    let e = eqb-true (toBits binary32 a) (toBits binary32 b) (and-r (not (isNan b)) _ (and-r (not (isNan a)) _ h)) in
+    let e = eqb-true (toBits binary32 a) (toBits binary32 b) (and-2 (not (isNan b)) _ (and-2 (not (isNan a)) _ h)) in
     sym (ofBits-toBits binary32 a fa) ∙ (ap (ofBits binary32) e ∙ ofBits-toBits binary32 b fb)
 
 -- ---- a pattern's exponent field, its bits 23 to 30

@@ -52,16 +52,17 @@ unfoldable pub mod4 : ℤ → ℕ
 mod4 (pos k) = k % 4
 mod4 (negsuc k) = 3 - k % 4
 
--- n mod 4
+-- n mod 4. The n of document 01 is a nearest whole number, so nothing is cut off (`quarter-nearest`).
 abbrev pub quarterOf : Float → ℕ
 quarterOf n = mod4 (wholePart n)
 
--- `mod4` is the mathematical one: below 4, and less than z by a multiple of 4
+-- `mod4` is the mathematical one: it is below 4,
 pub mod4-below : (z : ℤ) → mod4 z < 4
 unfolding mod4
 mod4-below (pos k) = omega arith
 mod4-below (negsuc k) = omega arith
 
+-- and z is more than it by a multiple of 4
 pub mod4-is : (z : ℤ) → (q : ℤ) × (z ≡ q *ℤ pos 4 +ℤ pos (mod4 z))
 unfolding mod4
 mod4-is (pos k) = (pos (k / 4), ap pos (omega arith))

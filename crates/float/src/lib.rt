@@ -7,7 +7,7 @@ pub use turn::radians;
 pub use turn::sin_cos;
 ghost use mathlib.Core.Path.{_≡_};
 ghost use mathlib.Core.Bool.{false};
-ghost use Prim.Native.Nat.{ℕ, min};
+ghost use Prim.Native.Nat.{min};
 ghost use lib.Dec.{T};
 ghost use lib.IntN.{pos};
 ghost use lib.Ieee.{binary32, toUnsigned, rem, lt, fin};

@@ -75,3 +75,15 @@ module _ {n : ℕ} {p : ℕ → Bool} {i : ℕ} where
 
   pub passed-all : Passed n p i → n ≤ i → true ≡ allBelow n p
   passed-all h l = let e : i ≡ n = omega arith in rw e at (sym (h .all))
+
+-- two tests of each are the two tests at once
+pub all-and : (n : ℕ) (p q : ℕ → Bool) → (allBelow n p && allBelow n q) ≡ allBelow n (λ i. p i && q i)
+unfolding allBelow
+all-and zero p q = refl
+all-and (suc n) p q = swap (allBelow n p) (p n) (allBelow n q) (q n) ∙ ap (λ (b : Bool). b && (p n && q n)) (all-and n p q)
+  where
+    swap : (a b c d : Bool) → (a && b && (c && d)) ≡ (a && c && (b && d))
+    swap true true c d = refl
+    swap true false true d = refl
+    swap true false false d = refl
+    swap false b c d = refl

@@ -17,14 +17,18 @@ use Rattle.sheet.specs.Sizes.{animationCount, contentCount, targetCount,
 use Rattle.sheet.specs.Rows.{contentAt, targetAt, contentRow, targetRow}
 use Rattle.sheet.specs.Sheet.{sizesOk, lengthOk, animationOk, contentOk, keysOf, targetFrom, targetOk, targetsOk, sheetOk}
 
--- the sizes are in their ranges, the length is theirs, and each row passed
-pub record Checked (s : List ℕ) : Type 0 where
+-- the sizes are in their ranges
+pub record Sized (s : List ℕ) : Type 0 where
   pub some : 1 ≤ animationCount s
   pub animations : animationCount s ≤ 8
   pub contents : contentCount s ≤ 64
   pub targets : targetCount s ≤ 256
   pub keys : keyCount s ≤ 2048
   pub textures : textureCount s ≤ 64
+
+-- the length is theirs, and each row passed
+pub record Checked (s : List ℕ) : Type 0 where
+  pub sizes : Sized s
   pub long : length s ≡ 12 + animationCount s * 28 + contentCount s * 28 + targetCount s * 14 + textureCount s * 24 + keyCount s * 12
   pub animated : allBelow (animationCount s) (animationOk s) ≡ true
   pub contented : allBelow (contentCount s) (contentOk s (contentsAt s) (animationCount s)) ≡ true
@@ -33,14 +37,6 @@ pub record Checked (s : List ℕ) : Type 0 where
 pub length-known : (s : List ℕ) → lengthOk s ≡ true → length s ≡ 12 + animationCount s * 28 + contentCount s * 28 + targetCount s * 14 + textureCount s * 24 + keyCount s * 12
 unfolding lengthOk
 length-known s e = eqb-true _ _ e
-
-record Sized (s : List ℕ) : Type 0 where
-  some : 1 ≤ animationCount s
-  animations : animationCount s ≤ 8
-  contents : contentCount s ≤ 64
-  targets : targetCount s ≤ 256
-  keys : keyCount s ≤ 2048
-  textures : textureCount s ≤ 64
 
 sized : (s : List ℕ) → sizesOk s ≡ true → Sized s
 unfolding sizesOk
@@ -66,14 +62,8 @@ checked s e =
     let c = both _ _ (t .0) in
     let a = both _ _ (c .0) in
     let l = both _ _ (a .0) in
-    let h = sized s (and-2 (leb 12 (length s)) _ (l .0)) in
     record {
-      some = h .some;
-      animations = h .animations;
-      contents = h .contents;
-      targets = h .targets;
-      keys = h .keys;
-      textures = h .textures;
+      sizes = sized s (and-2 (leb 12 (length s)) _ (l .0));
       long = length-known s (l .1);
       animated = a .1;
       contented = c .1;

@@ -1,4 +1,4 @@
-use mathlib.Core.Path.{_≡_, sym, _∙_}
+-- Each return is the case of `curveTaken` that the tests before it picked; past the Constant case the frames never fall.
 use borrow.Author.Needs.{needs}
 use borrow.Author.Tests.{eq-eqb, ne-eqb}
 use Rattle.curve.specs.Curve.{curveTaken}

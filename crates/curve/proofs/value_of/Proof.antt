@@ -1,7 +1,8 @@
-use mathlib.Core.Path.{_≡_, refl, sym, ap, _∙_}
+-- Each arm is the case of `valueOf`; `takenEnd` keeps its keys within the slices.
+use mathlib.Core.Path.{ap}
 use native.Mathlib.Omega.{arith}
 use borrow.Author.Needs.{needs}
-use Rattle.curve.specs.Curve.{valueOf, reach}
+use Rattle.curve.specs.Curve.{valueOf, takenEnd}
 use Rattle.curve.proofs.value_of.Statement.{statement}
 use Rattle.curve.proofs.value_of.Tie as tie
 
@@ -12,22 +13,22 @@ enum-known-t : tie.Need-enum-known-t
 enum-known-t c = search needs
 
 mul-result : tie.Need-mul-result
-mul-result c = record { fits = omega (arith, ap reach (c .before .t .given .1)) }
+mul-result c = record { fits = omega (arith, ap takenEnd (c .before .t .given .1)) }
 
 shared-slice-read-result : tie.Need-shared-slice-read-result
-shared-slice-read-result c = omega (arith, ap reach (c .before .before .t .given .1))
+shared-slice-read-result c = omega (arith, ap takenEnd (c .before .before .t .given .1))
 
 enum-known-t-2 : tie.Need-enum-known-t-2
 enum-known-t-2 c = search needs
 
 key-at-requires : tie.Need-key-at-requires
-key-at-requires c κs = omega (arith, ap reach (c .before .t2 .given .1))
+key-at-requires c κs = omega (arith, ap takenEnd (c .before .t2 .given .1))
 
 add-key-at : tie.Need-add-key-at
-add-key-at c = record { fits = omega (arith, ap reach (c .before .before .t2 .given .1)) }
+add-key-at c = record { fits = omega (arith, ap takenEnd (c .before .before .t2 .given .1)) }
 
 key-at-requires-2 : tie.Need-key-at-requires-2
-key-at-requires-2 c κs = omega (arith, ap reach (c .before .before .t2 .given .1))
+key-at-requires-2 c κs = omega (arith, ap takenEnd (c .before .before .t2 .given .1))
 
 span-requires : tie.Need-span-requires
 span-requires c κs = search needs

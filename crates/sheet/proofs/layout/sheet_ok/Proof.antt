@@ -10,6 +10,7 @@ use borrow.Author.Needs.{needs}
 use Rattle.sheet.proofs.layout.sheet_ok.Statement.{statement}
 use Rattle.sheet.proofs.layout.sheet_ok.Tie as tie
 
+-- the sizes are not all there
 returns : tie.Need-returns
 unfolding sheetOk
 returns c = rw (lt-leb _ _ (c .if1 .taken))
@@ -17,6 +18,7 @@ returns c = rw (lt-leb _ _ (c .if1 .taken))
 sizes-ok-requires : tie.Need-sizes-ok-requires
 sizes-ok-requires c κs = search needs
 
+-- a size is out of its range
 returns-2 : tie.Need-returns-2
 unfolding sheetOk
 returns-2 c = rw (le-leb _ _ (c .before .before .if1 .left), no (c .before .sizes-ok .ensures) (c .if2 .taken))
@@ -24,6 +26,7 @@ returns-2 c = rw (le-leb _ _ (c .before .before .if1 .left), no (c .before .size
 length-ok-requires : tie.Need-length-ok-requires
 length-ok-requires c κs = search needs
 
+-- the length is not theirs
 returns-3 : tie.Need-returns-3
 unfolding sheetOk
 returns-3 c = let b = c .before .before in rw (le-leb _ _ (b .before .before .if1 .left), yes (b .before .sizes-ok .ensures) (b .if2 .left), no (c .before .length-ok .ensures) (c .if3 .taken))
@@ -53,6 +56,7 @@ add-targets c = search needs
 long-enough : (c : tie.Else3) → lengthOk (now (c .before .before .before .before .before .before .args .s)) ≡ true
 long-enough c = yes (c .before .length-ok .ensures) (c .if3 .left)
 
+-- the length says where the rows end
 animations-ok-requires : tie.Need-animations-ok-requires
 animations-ok-requires c κs = omega (arith, length-known _ (long-enough (c .before .before .before)))
 
@@ -65,6 +69,7 @@ u16-at-requires-4 c κs = search needs
 targets-ok-requires : tie.Need-targets-ok-requires
 targets-ok-requires c κs = omega (arith, length-known _ (long-enough (c .before .before .before .before .before .before)))
 
+-- what is left are the rows
 returns-4 : tie.Need-returns-4
 unfolding sheetOk
 returns-4 c = let d = c .before .before .before .before .before .before .before in let b = d .before .before in rw (le-leb _ _ (b .before .before .if1 .left), yes (b .before .sizes-ok .ensures) (b .if2 .left), long-enough d) (cc)

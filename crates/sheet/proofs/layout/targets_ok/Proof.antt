@@ -7,6 +7,7 @@ use Rattle.sheet.specs.Sheet.{keysOf, targetOk, targetsOk}
 use Rattle.sheet.proofs.layout.targets_ok.Statement.{statement}
 use Rattle.sheet.proofs.layout.targets_ok.Tie as tie
 
+-- the rows so far passed, and sum is the sum of their counts, which are below 65,536
 abbrev Inv-loop : tie.InvT-loop
 Inv-loop s base c n k sum₀ i₀ sum i = Passed n (targetOk s base c) i × ((sum ≡ sumBelow i (keysOf s base)) × (sum ≤ i * 65535))
 
@@ -40,14 +41,17 @@ add-i c = omega arith
 loop-less : tie.Need-loop-less Inv-loop μ-loop
 loop-less c = omega arith
 
+-- row i passed, with its first key at sum
 loop-again : tie.Need-loop-again Inv-loop μ-loop
 unfolding targetOk keysOf
 loop-again c = (passed-more (c .before .before .before .before .loop .inv .0) (omega arith) (cc), (rw sum-more (cc), omega arith))
 
+-- row i did not pass
 returns : tie.Need-returns Inv-loop μ-loop
 unfolding targetsOk targetOk
 returns c = rw (← passed-not (c .before .before .before .loop .inv .0) (omega arith) (cc))
 
+-- each row passed, so what is left is the sum
 returns-2 : tie.Need-returns-2 Inv-loop μ-loop
 unfolding targetsOk
 returns-2 c = let e : c .before .loop .i ≡ c .before .before .before .args .n = omega arith in rw (← passed-all (c .before .loop .inv .0) (omega arith)) (cc)

@@ -1,0 +1,6 @@
+-- The keys of a sheet: their rules, the ones that a sheet holds, and loading.
+pub mod Rules
+pub mod Keys
+pub mod Checked
+pub mod Stored
+pub mod Load

@@ -1,0 +1,1 @@
+// The keys of a sheet: their rules, and loading them.

@@ -1,0 +1,2 @@
+-- What the exports for comparison answer.
+pub mod Checked

@@ -1,0 +1,3 @@
+-- What a replay of a stored sample answers.
+pub mod Sample
+pub mod Curves

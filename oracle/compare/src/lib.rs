@@ -1,0 +1,5 @@
+//! Runs of the published Rust beside this repository's proved code.
+
+pub mod arguments;
+pub mod probe;
+pub mod tally;
