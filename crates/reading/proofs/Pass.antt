@@ -13,15 +13,15 @@ use Rattle.sheet.specs.Sizes.{contentCount, targetCount, textureCount, targetsA
 use Rattle.sheet.specs.Checked.{Checked, target-content}
 use Rattle.sheet.specs.Rows.{targetAt, targetRow}
 use Rattle.sheet.specs.declared.rows.Target.{Target}
-use Rattle.reading.specs.Channel.{channelCount, rowChannel, targetChannel}
+use Rattle.channel.specs.Channel.{channelCount, rowChannel, targetChannel}
 use Rattle.reading.specs.Reading.{rowReading, targetReading, lastTarget, readingOf, reading, markOf, numberOf, marksOf, numbersOf, noMark, noNumber}
-use Rattle.reading.specs.Held.{heldFor, Holds, holds-for}
-use Rattle.reading.specs.Within.{ReachedIn, active-in, target-within}
+use Rattle.channel.specs.Held.{heldFor, Holds, holds-for}
+use Rattle.channel.specs.Within.{ReachedIn, active-in, target-within}
 use Rattle.reading.specs.Ready.{Ready, ReadyRow, ready-row}
 use Rattle.reading.specs.declared.Active.{Active}
 use Rattle.reading.specs.declared.Active.the-variants as active
 use Rattle.reading.specs.declared.Reading.{Reading}
-use Rattle.reading.specs.declared.reach.Held.{Held}
+use Rattle.channel.specs.declared.reach.Held.{Held}
 
 -- ---- what is known of target i's row
 

@@ -5,7 +5,7 @@ use mathlib.Core.List.{List}
 use mathlib.Core.Path.{_≡_, refl}
 use lib.Ieee.{Float}
 use Rattle.laws.specs.Table.{table}
-use Rattle.reading.specs.Channel.{channelCount}
+use Rattle.channel.specs.Channel.{channelCount}
 use Rattle.reading.specs.Reading.{reading, marksOf, numbersOf, noMark, noNumber}
 use Rattle.reading.specs.declared.Active.the-variants as active
 use Rattle.reading.specs.declared.Reading.the-variants.{Nothing}

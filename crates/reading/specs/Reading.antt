@@ -17,9 +17,9 @@ use Rattle.sheet.specs.Sizes.{targetCount, textureCount}
 use Rattle.sheet.specs.Rows.{targetRow}
 use Rattle.sheet.specs.declared.rows.Target.{Target}
 use Rattle.curve.specs.Curve.{evalPart, evalPartStepU16}
-use Rattle.reading.specs.Channel.{familyOf, targetChannel, channelCount}
-use Rattle.reading.specs.declared.Family.{Family}
-use Rattle.reading.specs.declared.Family.the-variants as family
+use Rattle.channel.specs.Channel.{familyOf, targetChannel, channelCount}
+use Rattle.channel.specs.declared.Family.{Family}
+use Rattle.channel.specs.declared.Family.the-variants as family
 use Rattle.reading.specs.declared.Active.{Active}
 use Rattle.reading.specs.declared.Active.the-variants as active
 use Rattle.reading.specs.declared.Reading.{Reading}

@@ -1,30 +1,8 @@
-// What an animation at a frame does to the panes and materials of a book (document 01, "Channels").
-mod channel;
-mod reach;
+// What the channels of a book read while an animation is active at a frame (document 01, "Channels").
 mod value;
 mod whole;
 
 pub use whole::read_all;
-
-// A target's family, by its four-letter code.
-pub enum Family {
-    PaneSrt,
-    Visibility,
-    VertexColor,
-    TextureSrt,
-    TexturePattern,
-    IndirectSrt,
-    AlphaCompare,
-    MaterialColor,
-    Other,
-}
-
-// The row of the book that a content reaches.
-pub enum Reached {
-    Pane(usize),
-    Material(usize),
-    Nothing,
-}
 
 // The active animation and its frame, or nothing.
 pub enum Active {

@@ -1,6 +1,6 @@
 // What a target reads, by its family and its curve's value, and a reading as a mark and a number.
-use crate::Family;
 use crate::Reading;
+use channel::Family;
 ghost use mathlib.Core.Path.{_≡_};
 ghost use lib.Ieee.{toUnsigned};
 ghost use Rattle.reading.specs.Reading.{levelOf, rowOf, readAs, markOf, numberOf};

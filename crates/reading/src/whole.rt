@@ -1,20 +1,20 @@
 // The whole reading: a mark and a number for each channel of the book, in one pass over the targets.
 use crate::Active;
 use crate::Reading;
-use crate::channel::family_of;
-use crate::channel::row_channel;
-use crate::reach::held_for;
-use crate::reach::none_held;
 use crate::value::mark_of;
 use crate::value::number_of;
 use crate::value::read_as;
+use channel::family_of;
+use channel::held_for;
+use channel::none_held;
+use channel::row_channel;
 use laws::Found;
 use sheet::Target;
 ghost use mathlib.Core.Path.{_≡_};
 ghost use Prim.Native.Nat.{ℕ, _<_};
 ghost use lib.ListN.{length, set};
 ghost use Rattle.laws.specs.Table.{table};
-ghost use Rattle.reading.specs.Channel.{channelCount};
+ghost use Rattle.channel.specs.Channel.{channelCount};
 ghost use Rattle.reading.specs.Reading.{rowReading, markOf, numberOf, marksOf, numbersOf, noMark, noNumber};
 ghost use Rattle.reading.specs.Ready.{Ready, ReadyRow};
 ghost use Rattle.reading.specs.declared.Active.the-variants as active;

@@ -8,7 +8,7 @@ use Rattle.float.specs.Numbers.{_⊘_}
 use Rattle.sheet.specs.Rows.{textureName}
 use Rattle.book.specs.Rows.{paneRow, materialSrt, materialTexture}
 use Rattle.book.specs.declared.rows.Srt.{Srt}
-use Rattle.reading.specs.Channel.{ofPane, ofMaterial}
+use Rattle.channel.specs.Channel.{ofPane, ofMaterial}
 use Rattle.reading.specs.Reading.{reading, full}
 use Rattle.reading.specs.declared.Active.{Active}
 use Rattle.reading.specs.declared.Reading.{Reading}

@@ -5,7 +5,7 @@ use Rattle.reading.proofs.whole.row_reading.Tie as tie
 use Rattle.reading.proofs.whole.row_reading.Reads as reads
 use Rattle.reading.proofs.whole.row_reading.Lts as lts
 use Rattle.curve.proofs.eval_part.Reads as eval-part-reads
-use Rattle.reading.proofs.channel.family_of.Reads as family-of-reads
+use Rattle.channel.proofs.family_of.Reads as family-of-reads
 use Rattle.reading.proofs.value.read_as.Reads as read-as-reads
 
 -- src/whole.rt:35:16

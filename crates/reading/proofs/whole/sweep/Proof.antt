@@ -1,15 +1,15 @@
 use Prim.Native.Nat.{_-_}
 use borrow.Author.Needs.{needs}
 use native.Mathlib.Omega.{arith}
-use Rattle.reading.specs.Held.{holds-none}
+use Rattle.channel.specs.Held.{holds-none}
 use Rattle.reading.proofs.Pass.{Pass, row-is, row-content, row-ready, held-in, pass-none, pass-past, pass-at, pass-room, pass-all, cleared}
 use Rattle.reading.proofs.whole.sweep.Statement.{statement}
 use Rattle.reading.proofs.whole.sweep.Tie as tie
 use Rattle.reading.proofs.whole.sweep.Reads as reads
 use Rattle.reading.proofs.whole.sweep.Lts as lts
-use Rattle.reading.proofs.channel.row_channel.Reads as row-channel-reads
-use Rattle.reading.proofs.reach.held_for.Reads as held-for-reads
-use Rattle.reading.proofs.reach.none_held.Reads as none-held-reads
+use Rattle.channel.proofs.row_channel.Reads as row-channel-reads
+use Rattle.channel.proofs.held_for.Reads as held-for-reads
+use Rattle.channel.proofs.none_held.Reads as none-held-reads
 use Rattle.reading.proofs.whole.put.Reads as put-reads
 use Rattle.reading.proofs.whole.row_reading.Reads as row-reading-reads
 use Rattle.sheet.proofs.target_at.Reads as target-at-reads
