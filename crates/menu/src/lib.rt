@@ -2,6 +2,7 @@
 mod check;
 mod editing;
 mod playing;
+mod readings;
 
 pub use editing::key_edit;
 pub use editing::slope_edit;
@@ -10,3 +11,6 @@ pub use playing::Ticked;
 pub use playing::play;
 pub use playing::pose;
 pub use playing::tick;
+pub use readings::ReadOne;
+pub use readings::ResolvedPane;
+pub use readings::ResolvedSrt;
