@@ -15,6 +15,9 @@ use Rattle.menu.specs.Calls.{checkPlayer, tickMoves, lengthsOk, checkKey
 use Rattle.player.specs.Keys.{Keys}
 use Rattle.player.specs.Undo.{keysOkOf}
 use Rattle.sheet.specs.Sizes.{keyCount}
+use Rattle.book.specs.Book.{bookOk}
+use Rattle.reading.specs.Ready.{Ready, ready}
+use Rattle.menu.specs.Readings.{checkBook}
 use lib.ListN.{length}
 use Rattle.player.specs.View.{viewOf, ticks, tickSum, tickFrame}
 use Rattle.float.specs.Numbers.{finite}
@@ -29,11 +32,11 @@ unless-stop true k rest m e n = absurd (n e)
 unless-stop false k rest m e n = e
 
 -- what a sheet and a player that passed tell
-pub record Ready (s : List ℕ) (p : Player) : Type 0 where
+pub record PlayerReady (s : List ℕ) (p : Player) : Type 0 where
   pub sheet : Checked s
   pub player : Sound s p
 
-pub selected : {s : List ℕ} {p : Player} → Ready s p → Selected s p
+pub selected : {s : List ℕ} {p : Player} → PlayerReady s p → Selected s p
 selected w = record { sheet = w .sheet; selection = selected-below (w .player) }
 
 module _ (s : List ℕ) (p : Player) where
@@ -54,7 +57,7 @@ module _ (s : List ℕ) (p : Player) where
       let b = passed (playerOk s p) 5 _ tt (a .1) in
       h ∙ sym (pass (sheetOk s) 1 _ (a .0) ∙ pass (playerOk s p) 5 rest (b .0))
 
-  pub player-ready : {n : ℕ} (rest : ℕ) → n ≡ checkPlayer s p rest → n ≡ 0 → Ready s p
+  pub player-ready : {n : ℕ} (rest : ℕ) → n ≡ checkPlayer s p rest → n ≡ 0 → PlayerReady s p
   unfolding checkPlayer
   player-ready rest e z =
       let a = passed (sheetOk s) 1 _ tt (sym e ∙ z) in
@@ -129,3 +132,56 @@ module _ (s : List ℕ) (p : Player) (ks : Keys) where
   unfolding checkKeys
   keys-rest rest e z =
       passed (playerOk s p) 5 _ tt (passed (keysOkOf s ks) 4 _ tt (passed (lengthsOk s ks) 3 _ tt (passed (sheetOk s) 1 _ tt (sym e ∙ z) .1) .1) .1) .1
+
+-- ---- calls that also take a book
+pub record BookReady (s b : List ℕ) (p : Player) (ks : Keys) : Type 0 where
+  pub ready : Ready s b (ks .frames) (ks .values) (ks .slopes)
+  pub player : Sound s p
+
+module _ (s b : List ℕ) (p : Player) (ks : Keys) where
+  -- the chain over the book is the chain over the keys with row 2 in it
+  book-parts : {n : ℕ} (rest : ℕ) → n ≡ checkBook s b p ks rest → n ≡ 0 → (sheetOk s ≡ true) × (bookOk b ≡ true) × (lengthsOk s ks ≡ true) × (keysOkOf s ks ≡ true) × (playerOk s p ≡ true) × (rest ≡ 0)
+  unfolding checkBook
+  book-parts rest e z =
+      let a = passed (sheetOk s) 1 _ tt (sym e ∙ z) in
+      let x = passed (bookOk b) 2 _ tt (a .1) in
+      let l = passed (lengthsOk s ks) 3 _ tt (x .1) in
+      let c = passed (keysOkOf s ks) 4 _ tt (l .1) in
+      let d = passed (playerOk s p) 5 _ tt (c .1) in
+      (a .0, x .0, l .0, c .0, d .0, d .1)
+
+  pub book-ready : {n : ℕ} (rest : ℕ) → n ≡ checkBook s b p ks rest → n ≡ 0 → BookReady s b p ks
+  book-ready rest e z =
+      let w = book-parts rest e z in
+      record { ready = ready s b (ks .frames) (ks .values) (ks .slopes) (w .0) (w .1) (w .3); player = sound s p (w .4) }
+
+  pub book-rest : {n : ℕ} (rest : ℕ) → n ≡ checkBook s b p ks rest → n ≡ 0 → rest ≡ 0
+  book-rest rest e z = book-parts rest e z .5
+
+  pub book-go : {n m : ℕ} (rest : ℕ) → n ≡ checkBook s b p ks 0 → n ≡ 0 → m ≡ rest → m ≡ checkBook s b p ks rest
+  unfolding checkBook
+  book-go rest e z h =
+      let w = book-parts 0 e z in
+      h ∙ sym (pass (sheetOk s) 1 _ (w .0) ∙ pass (bookOk b) 2 _ (w .1) ∙ pass (lengthsOk s ks) 3 _ (w .2) ∙ pass (keysOkOf s ks) 4 _ (w .3) ∙ pass (playerOk s p) 5 rest (w .4))
+
+  pub book-stop : {n : ℕ} (rest : ℕ) → n ≡ checkBook s b p ks 0 → (n ≡ 0 → ⊥) → n ≡ checkBook s b p ks rest
+  unfolding checkBook unless
+  book-stop {n} rest e d = one (sheetOk s) e
+    where
+      four : (t : Bool) → n ≡ unless t 4 (unless (playerOk s p) 5 0) → n ≡ unless t 4 (unless (playerOk s p) 5 rest)
+      four true q = unless-stop (playerOk s p) 5 rest n q d
+      four false q = q
+
+      three : (t : Bool) → n ≡ unless t 3 (unless (keysOkOf s ks) 4 (unless (playerOk s p) 5 0)) → n ≡ unless t 3 (unless (keysOkOf s ks) 4 (unless (playerOk s p) 5 rest))
+      three true q = four (keysOkOf s ks) q
+      three false q = q
+
+      two : (t : Bool) → n ≡ unless t 2 (unless (lengthsOk s ks) 3 (unless (keysOkOf s ks) 4 (unless (playerOk s p) 5 0))) →
+          n ≡ unless t 2 (unless (lengthsOk s ks) 3 (unless (keysOkOf s ks) 4 (unless (playerOk s p) 5 rest)))
+      two true q = three (lengthsOk s ks) q
+      two false q = q
+
+      one : (t : Bool) → n ≡ unless t 1 (unless (bookOk b) 2 (unless (lengthsOk s ks) 3 (unless (keysOkOf s ks) 4 (unless (playerOk s p) 5 0)))) →
+          n ≡ unless t 1 (unless (bookOk b) 2 (unless (lengthsOk s ks) 3 (unless (keysOkOf s ks) 4 (unless (playerOk s p) 5 rest))))
+      one true q = two (bookOk b) q
+      one false q = q

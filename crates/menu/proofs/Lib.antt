@@ -2,3 +2,4 @@ pub mod Checks
 pub mod Results
 pub mod Edits
 pub mod Undoes
+pub mod Answers

@@ -102,6 +102,9 @@ pub record Tables : Type 0 where
   pub marks : List ℕ
   pub numbers : List Float
 
+abbrev pub gaveTables : ℕ → List ℕ → List Float → Tables
+gaveTables n marks numbers = record { refusal = n; marks = marks; numbers = numbers }
+
 unfoldable pub tablesOf : ℕ → List ℕ → List Float → List ℕ → List Float → Tables
 tablesOf n made made′ marks numbers = record { refusal = n; marks = cond (eqb n 0) made marks; numbers = cond (eqb n 0) made′ numbers }
 
@@ -110,6 +113,9 @@ pub record Rows : Type 0 where
   pub visible : List ℕ
   pub alpha : List Float
   pub influence : List Float
+
+abbrev pub gaveRows : ℕ → List ℕ → List Float → List Float → Rows
+gaveRows n visible alpha influence = record { refusal = n; visible = visible; alpha = alpha; influence = influence }
 
 unfoldable pub rowsOf : ℕ → List ℕ → List Float → List Float → List ℕ → List Float → List Float → Rows
 rowsOf n made made′ made″ visible alpha influence =

@@ -14,3 +14,4 @@ pub use playing::tick;
 pub use readings::ReadOne;
 pub use readings::ResolvedPane;
 pub use readings::ResolvedSrt;
+pub use readings::read_all;
