@@ -131,6 +131,11 @@ module _ (fs : List Float) (held : Held fs) (p : Spot) (x : Float) (hx : T (fits
         go true e q = between-finite lo frame (getD fs (p .at + 1) nan) (lowest-known .1) (next e) (within .0) (under-next e)
         go false e q = between-finite lo frame hi (lowest-known .1) (max-finite (highest fs p) lo (rw q (unfold ofBits in tt)) (lowest-known .1)) (within .0) (within .1)
 
+-- row 9, of a curve that is not Constant
+not-overtaken : (fs : List Float) (p : Spot) (x : Float) → eqb (p .curve) constant ≡ false → overtakes fs p x ≡ false → (p .more && lt (getD fs (p .at + 1) nan) (clampedFrame fs p x)) ≡ false
+unfolding overtakes
+not-overtaken fs p x q o = rw q at o
+
 -- ---- the rule on a key that an edit changes
 module _ (curve : ℕ) (a frame value slope : Float) (h : keyRule curve a frame value slope ≡ true) where
   -- Constant: the value is free
@@ -220,7 +225,7 @@ module _ {s : List ℕ} (w : Checked s) (ks : Keys) (ok : keysOkOf s ks ≡ true
 
   old-next : beforeNext (ks .frames) p (old .frame) ≡ true
   unfolding fitsAt
-  old-next = and-2 _ (beforeNext (ks .frames) p (old .frame)) (here-fits w ks ok track key lt' lk)
+  old-next = and-2 (finiteNumbers old && keyRule (p .curve) (frameBefore (ks .frames) p (old .frame)) (old .frame) (old .value) (old .slope)) (beforeNext (ks .frames) p (old .frame)) (here-fits w ks ok track key lt' lk)
 
   slope-fits : (m : Float) → requestRefusal (ks .frames) p (request.Slope m) ≡ 0 → fitsAt (ks .frames) p (record { frame = old .frame; value = old .value; slope = m }) ≡ true
   unfolding requestRefusal
@@ -232,20 +237,72 @@ module _ {s : List ℕ} (w : Checked s) (ks : Keys) (ok : keysOkOf s ks ≡ true
   key-fits : (x v : Float) → T (fits binary32 x) → requestRefusal (ks .frames) p (request.Key x v) ≡ 0
       → fitsAt (ks .frames) p (record { frame = editedFrame (ks .frames) p x; value = editedValue p v; slope = old .slope }) ≡ true
   unfolding requestRefusal editedFrame
-  key-fits x v h e = go (eqb (p .curve) constant) refl
+  key-fits x v h e =
+      let a = passed (finite x && finite v) 8 _ tt e in
+      let o = passed (not (overtakes (ks .frames) p x)) 9 0 tt (a .1) .0 in
+      let f = both (finite x) (finite v) (a .0) in
+      go (true-T _ (f .0)) (true-T _ (f .1)) (not-true (overtakes (ks .frames) p x) o) (eqb (p .curve) constant) refl
     where
-      a = passed (finite x && finite v) 8 _ tt e
-      o = passed (not (overtakes (ks .frames) p x)) 9 0 tt (a .1) .0
-      f = both (finite x) (finite v) (a .0)
-      u = value-known p v (true-T _ (f .1))
-
-      go : (b : Bool) → eqb (p .curve) constant ≡ b →
+      go : T (finite x) → T (finite v) → overtakes (ks .frames) p x ≡ false → (b : Bool) → eqb (p .curve) constant ≡ b →
           fitsAt (ks .frames) p (record { frame = cond b (getD (ks .frames) (p .at) nan) (clampedFrame (ks .frames) p x); value = editedValue p v; slope = old .slope }) ≡ true
-      go true q = unfold spotOf keyAt in fits-by (ks .frames) p (old .frame) (editedValue p v) (old .slope) old-frame u old-slope (constant-kept (p .curve) _ _ _ _ old-rule q (editedValue p v)) old-next
-      go false q =
-          let n = not-overtaken (ks .frames) p x q (not-true _ o) in
+      go fx fv o true q =
+          unfold spotOf keyAt in
+          fits-by (ks .frames) p (old .frame) (editedValue p v) (old .slope) old-frame (value-known p v fv) old-slope (constant-kept (p .curve) _ _ _ _ old-rule q (editedValue p v)) old-next
+      go fx fv o false q =
+          let n = not-overtaken (ks .frames) p x q o in
           fits-by (ks .frames) p (clampedFrame (ks .frames) p x) (editedValue p v) (old .slope)
-              (T-true _ (clamped-finite (ks .frames) held p x h (true-T _ (f .0)) previous next n))
-              u old-slope
-              (unfold editedValue in moved-kept (p .curve) _ _ _ _ old-rule q _ _ v (true-T _ (f .1)) (clamped-after (ks .frames) held p x h (true-T _ (f .0)) previous next))
-              (clamped-before (ks .frames) held p x h (true-T _ (f .0)) previous next n)
+          (T-true _ (clamped-finite (ks .frames) held p x h fx previous next n))
+          (value-known p v fv)
+          old-slope
+          (unfold editedValue in moved-kept (p .curve) _ _ _ _ old-rule q _ _ v fv (clamped-after (ks .frames) held p x h fx previous next))
+          (clamped-before (ks .frames) held p x h fx previous next n)
+
+  request-fits : (r : Request) → HeldRequest r → requestRefusal (ks .frames) p r ≡ 0 → fitsAt (ks .frames) p (edited s ks track key r) ≡ true
+  unfolding edited editedAt
+  request-fits (request.Key x v) h e = unfold spotOf in key-fits x v (h .0) e
+  request-fits (request.Slope m) h e = unfold spotOf in slope-fits m e
+
+  -- its frame is an f32
+  frame-held : (r : Request) → HeldRequest r → requestRefusal (ks .frames) p r ≡ 0 → T (fits binary32 (edited s ks track key r .frame))
+  unfolding edited editedAt keyAt requestRefusal editedFrame
+  frame-held (request.Key x v) h e = go (eqb (p .curve) constant)
+    where
+      fx : T (finite x)
+      fx = true-T _ (and-1 (finite x) (finite v) (passed (finite x && finite v) 8 _ tt e .0))
+
+      go : (b : Bool) → T (fits binary32 (cond b (getD (ks .frames) (p .at) nan) (clampedFrame (ks .frames) p x)))
+      go true = held (p .at)
+      go false = clamped-fits (ks .frames) held p x (h .0) fx previous next
+  frame-held (request.Slope m) h e = held (p .at)
+
+module _ {s : List ℕ} (w : Checked s) (ks : Keys) (ok : keysOkOf s ks ≡ true) (held : Held (ks .frames)) (selection track key : ℕ) (r : Request) (hr : HeldRequest r) (e : editRefusal s selection ks track key r ≡ 0) where
+  abbrev allowed : (hasKey s track key ≡ true) × (requestRefusal (ks .frames) (spotOf s track key) r ≡ 0)
+  allowed = accepted-key s selection ks track key r e
+
+  abbrev there : (track < targetCount s) × (key < targetRow s track .count)
+  there = has-key s track key (allowed .0)
+
+  -- the key that an accepted edit makes fits in its place
+  pub edit-fits : fitsAt (ks .frames) (spotOf s track key) (edited s ks track key r) ≡ true
+  edit-fits = request-fits w ks ok held track key (there .0) (there .1) r hr (allowed .1)
+
+  -- so the keys that it leaves keep the key rules
+  pub edit-keeps : keysOkOf s (putKey ks (place s track key) (edited s ks track key r)) ≡ true
+  edit-keeps = put-fits w ks ok track key (there .0) (there .1) (edited s ks track key r) ∙ edit-fits
+
+  -- and are f32 as before
+  pub edit-held : Held (putKey ks (place s track key) (edited s ks track key r) .frames)
+  unfolding putKey
+  edit-held j = go (eqb j (place s track key)) refl
+    where
+      k : ℕ
+      k = place s track key
+
+      x : Float
+      x = edited s ks track key r .frame
+
+      go : (b : Bool) → eqb j k ≡ b → T (fits binary32 (getD (set (ks .frames) k x) j nan))
+      go true q =
+          rw (eqb-true j k q, getD-set-same (ks .frames) k x nan (place-within w ks ok track key (there .0) (there .1) .frames))
+          (frame-held w ks ok held track key (there .0) (there .1) r hr (allowed .1))
+      go false q = rw (getD-set-other (ks .frames) k j x nan (eqb-false j k q)) (held j)

@@ -11,7 +11,9 @@ use lib.ListN.{getD, set, length, length-set}
 use lib.Seq.{getD-set-same, getD-set-other}
 use lib.Ieee.{Float, nan, le}
 use Rattle.laws.specs.Below.{allBelow, all-at, all-of, all-fails}
+use Rattle.laws.specs.Tests.{both, and-1, true-T}
 use Rattle.float.specs.Numbers.{zero', finite, sameBits}
+use Rattle.float.specs.Bits.{same-self, finite-real}
 use Rattle.float.specs.StepValue.{wholeIn16}
 use Rattle.sheet.specs.Sizes.{targetCount, keyCount}
 use Rattle.sheet.specs.Rows.{targetRow}
@@ -23,7 +25,7 @@ use Rattle.curve.specs.declared.Key.{Key}
 use Rattle.player.specs.declared.edit.Spot.{Spot}
 use Rattle.player.specs.Keys.{Keys, keyAt, putKey, put-get, put-length, Within}
 use Rattle.player.specs.Edit.{place, spotOf}
-use Rattle.player.specs.Undo.{keysOkOf}
+use Rattle.player.specs.Undo.{sameKey, keysOkOf}
 
 -- all finite
 unfoldable pub finiteNumbers : Key → Bool
@@ -211,14 +213,14 @@ module _ {s : List ℕ} (w : Checked s) (ks : Keys) (ok : keysOkOf s ks ≡ true
         let k = place s track key in
         all-but (keyCount s) (finiteKey (put .frames) (put .values) (put .slopes)) k place-below
         (λ j m d.
-          rw (
-            getD-set-other (ks .frames) k j (x .frame) nan d,
-            getD-set-other (ks .values) k j (x .value) nan d,
-            getD-set-other (ks .slopes) k j (x .slope) nan d,
-            frame-finite c j m,
-            value-finite c j m,
-            slope-finite c j m,
-          )) ∙
+        rw (
+          getD-set-other (ks .frames) k j (x .frame) nan d,
+          getD-set-other (ks .values) k j (x .value) nan d,
+          getD-set-other (ks .slopes) k j (x .slope) nan d,
+          frame-finite c j m,
+          value-finite c j m,
+          slope-finite c j m,
+        )) ∙
         rw (
           getD-set-same (ks .frames) k (x .frame) nan (place-within .frames),
           getD-set-same (ks .values) k (x .value) nan (place-within .values),
@@ -233,7 +235,7 @@ module _ {s : List ℕ} (w : Checked s) (ks : Keys) (ok : keysOkOf s ks ≡ true
         all-but (targetCount s) (trackOk s (put .frames) (put .values) (put .slopes)) track lt
         (λ t m d. other (ks .frames) (ks .values) (ks .slopes) k x (targetRow s t .curve) (targetRow s t .first) (targetRow s t .count) (track-ok c t m) (apart t m d)) ∙
         own (ks .frames) (ks .values) (ks .slopes) k x (targetRow s track .curve) (targetRow s track .first) (targetRow s track .count) (track-ok c track lt) key
-            (unfold place in refl) lk (place-within .frames) (place-within .values) (place-within .slopes)
+        (unfold place in refl) lk (place-within .frames) (place-within .values) (place-within .slopes)
 
     -- the keys with x in the key's place keep the key rules exactly where x fits there
     pub put-fits : keysOkOf s (putKey ks (place s track key) x) ≡ fitsAt (ks .frames) (spotOf s track key) x
@@ -249,3 +251,14 @@ module _ {s : List ℕ} (w : Checked s) (ks : Keys) (ok : keysOkOf s ks ≡ true
   -- the key that is there fits
   pub here-fits : fitsAt (ks .frames) (spotOf s track key) (keyAt ks (place s track key)) ≡ true
   here-fits = sym (put-fits (keyAt ks (place s track key))) ∙ rw (put-get ks (place s track key)) ok
+
+-- a key that fits is the same as itself bit for bit: none of its numbers is a NaN
+pub fits-same : (fs : List Float) (p : Spot) (x : Key) → fitsAt fs p x ≡ true → sameKey x x ≡ true
+unfolding fitsAt finiteNumbers sameKey
+fits-same fs p x e =
+    let n = both (finite (x .frame) && finite (x .value)) (finite (x .slope)) (and-1 (finiteNumbers x) _ (and-1 _ (beforeNext fs p (x .frame)) e)) in
+    let m = both (finite (x .frame)) (finite (x .value)) (n .0) in
+    rw (self (x .frame) (m .0), self (x .value) (m .1), self (x .slope) (n .1))
+  where
+    self : (y : Float) → finite y ≡ true → sameBits y y ≡ true
+    self y h = same-self y (finite-real y (true-T _ h))
