@@ -38,7 +38,7 @@ use Rattle.player.specs.Keys.{Keys, keyAt, putKey}
 use Rattle.player.specs.Player.{none, hasKey}
 use Rattle.player.specs.Edit.{place, spotOf, lowest, highest, clampedFrame, editedFrame, editedValue, editedAt, edited, overtakes, requestRefusal, keyIn, editRefusal}
 use Rattle.player.specs.Undo.{keysOkOf}
-use Rattle.player.specs.Put.{finiteNumbers, frameBefore, beforeNext, fitsAt, place-below, place-within, put-fits, here-fits}
+use Rattle.player.specs.Put.{finiteNumbers, frameBefore, beforeNext, fitsAt, has-key, place-below, place-within, put-fits, here-fits}
 
 -- the request's numbers are f32: a call can take no others
 abbrev pub HeldRequest : Request → Type 0
@@ -180,12 +180,6 @@ unfolding editRefusal keyIn
 accepted-key s selection ks track key r e =
     let k = passed (keyIn s selection track key) 7 _ tt (passed (not (eqb selection none)) 6 _ tt e .1) in
     (and-1 (hasKey s track key) _ (k .0), k .1)
-
-pub has-key : (s : List ℕ) (track key : ℕ) → hasKey s track key ≡ true → (track < targetCount s) × (key < targetRow s track .count)
-unfolding hasKey
-has-key s track key e =
-    let k = both (ltb track (targetCount s)) (ltb key (targetRow s track .count)) e in
-    (ltb-true track (targetCount s) (k .0), ltb-true key (targetRow s track .count) (k .1))
 
 -- ---- an accepted edit
 module _ {s : List ℕ} (w : Checked s) (ks : Keys) (ok : keysOkOf s ks ≡ true) (held : Held (ks .frames)) (track key : ℕ) (lt' : track < targetCount s) (lk : key < targetRow s track .count) where

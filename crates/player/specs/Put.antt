@@ -23,9 +23,12 @@ use Rattle.keys.specs.Keys.{keysOk, keys-are}
 use Rattle.keys.specs.Checked.{KeysChecked, keys-checked, frame-finite, value-finite, slope-finite, track-ok}
 use Rattle.curve.specs.declared.Key.{Key}
 use Rattle.player.specs.declared.edit.Spot.{Spot}
+use Rattle.player.specs.declared.journal.Entry.{Entry}
 use Rattle.player.specs.Keys.{Keys, keyAt, putKey, put-get, put-length, Within}
+use Rattle.player.specs.Player.{hasKey, entryOk}
 use Rattle.player.specs.Edit.{place, spotOf}
-use Rattle.player.specs.Undo.{sameKey, keysOkOf}
+use Rattle.player.specs.Spot.{Inside, InsideAll}
+use Rattle.player.specs.Undo.{sameKey, keysOkOf, returnsOk}
 
 -- all finite
 unfoldable pub finiteNumbers : Key → Bool
@@ -180,6 +183,13 @@ module _ (fs vs ss : List Float) (k : ℕ) (x : Key) (curve first count : ℕ) (
         go true e = rw (next (ltb-true (key + 1) count e))
         go false e = refl
 
+-- what `hasKey` tells of the track and the key
+pub has-key : (s : List ℕ) (track key : ℕ) → hasKey s track key ≡ true → (track < targetCount s) × (key < targetRow s track .count)
+unfolding hasKey
+has-key s track key e =
+    let k = both (ltb track (targetCount s)) (ltb key (targetRow s track .count)) e in
+    (ltb-true track (targetCount s) (k .0), ltb-true key (targetRow s track .count) (k .1))
+
 -- ---- the keys of a sheet, with x put at a track's key
 module _ {s : List ℕ} (w : Checked s) (ks : Keys) (ok : keysOkOf s ks ≡ true) (track key : ℕ) (lt : track < targetCount s) (lk : key < targetRow s track .count) where
   c : KeysChecked s (ks .frames) (ks .values) (ks .slopes)
@@ -202,6 +212,21 @@ module _ {s : List ℕ} (w : Checked s) (ks : Keys) (ok : keysOkOf s ks ≡ true
   -- so it is one of each list
   pub place-within : Within ks (place s track key)
   place-within = record { frames = omega (arith, place-below, c .frames); values = omega (arith, place-below, c .values); slopes = omega (arith, place-below, c .slopes) }
+
+  -- with its neighbours
+  pub spot-inside : InsideAll (ks .frames) (ks .values) (ks .slopes) (spotOf s track key)
+  unfolding spotOf
+  spot-inside =
+      record {
+        frames =
+            record {
+              here = place-within .frames;
+              before = unfold place in omega arith;
+              after = λ e. unfold place in omega (arith, ltb-true (key + 1) (targetRow s track .count) e, target-keys w track lt, c .frames);
+            };
+        values = place-within .values;
+        slopes = place-within .slopes;
+      }
 
   module _ (x : Key) where
     abbrev put : Keys
@@ -262,3 +287,20 @@ fits-same fs p x e =
   where
     self : (y : Float) → finite y ≡ true → sameBits y y ≡ true
     self y h = same-self y (finite-real y (true-T _ h))
+
+-- what an undo and a redo ask before they look at an entry's key: sheet, keys and entry passed their checks
+pub record Returnable (s : List ℕ) (ks : Keys) (e : Entry) : Type 0 where
+  pub sheet : Checked s
+  pub rules : keysOkOf s ks ≡ true
+  pub entry : entryOk s e ≡ true
+
+module _ {s : List ℕ} {ks : Keys} {e : Entry} (w : Returnable s ks e) where
+  pub entry-key : (e .track < targetCount s) × (e .key < targetRow s (e .track) .count)
+  entry-key = has-key s (e .track) (e .key) (w .entry)
+
+  pub entry-inside : InsideAll (ks .frames) (ks .values) (ks .slopes) (spotOf s (e .track) (e .key))
+  entry-inside = spot-inside (w .sheet) ks (w .rules) (e .track) (e .key) (entry-key .0) (entry-key .1)
+
+  pub returns-by : (now back : Key) → returnsOk s ks e now back ≡ (sameKey (keyAt ks (spotOf s (e .track) (e .key) .at)) now && fitsAt (ks .frames) (spotOf s (e .track) (e .key)) back)
+  unfolding returnsOk
+  returns-by now back = rw (put-fits (w .sheet) ks (w .rules) (e .track) (e .key) (entry-key .0) (entry-key .1) back) (unfold spotOf in refl)
