@@ -9,6 +9,7 @@ use native.Mathlib.Omega.{arith}
 use lib.ListN.{length}
 use Rattle.float.specs.Numbers.{finite}
 use Rattle.sheet.specs.Sheet.{sheetOk}
+use Rattle.curve.specs.Before.{Held}
 use Rattle.player.specs.declared.Player.{Player}
 use Rattle.player.specs.declared.journal.Entry.{Entry}
 use Rattle.player.specs.declared.journal.Journal.{Journal}
@@ -21,10 +22,11 @@ use Rattle.player.specs.Undo.{sameKey, keysOkOf}
 use Rattle.menu.specs.Calls.{lengthsOk, entryFor}
 use Rattle.machine.specs.Plain.{Plain, replay, keysOf}
 
--- keys as each call finds and leaves them
+-- keys as each call finds and leaves them: as long as the sheet says, within the key rules, and with f32 frames, as a lent slice has
 pub record Sane (s : List ℕ) (ks : Keys) : Type 0 where
   pub long : lengthsOk s ks ≡ true
   pub rules : keysOkOf s ks ≡ true
+  pub held : Held (ks .frames)
 
 -- an edit that may be made on ks
 pub record Fair (s : List ℕ) (ks : Keys) (e : Edit) : Type 0 where

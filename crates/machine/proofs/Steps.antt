@@ -24,12 +24,14 @@ use Rattle.player.specs.Player.{rows, none, selectionOk}
 use Rattle.player.specs.View.{View, viewOf, withView, pickView, noView, playView, poseView, tickView, tickAnswer, ticks, tickSum, tickFrame, tickEnds, pickTick}
 use Rattle.player.specs.declared.edit.Request.{Request}
 use Rattle.player.specs.Edit.{Edit, place, edited, madeEdit, editRefusal}
+use Rattle.player.specs.Accepted.{HeldRequest}
 use Rattle.player.specs.Undo.{sameKey, keysOkOf, returnsOk, undoRefusal, redoRefusal, undoEntry, redoEntry, undoneKeys, redoneKeys, undonePlayer, redonePlayer, editedPlayer}
 use Rattle.menu.specs.Calls.{lengthsOk, checkPlayer, checkKeys, playRest, poseRest, tickRest, tickMoves, pickPlayer, pickKeys, playOf, poseOf, tickOf, entryFor, editOf, undoOf, redoOf}
-use Rattle.machine.specs.Calls.{Call, play, pose, tick, edit, undo, redo, Answer, number, ticked, State, stepP}
+use Rattle.machine.specs.Calls.{Call, play, pose, tick, edit, undo, redo, HeldCall, Answer, number, ticked, State, stepP}
 use Rattle.machine.specs.Plain.{Plain, replay, keysOf, viewed, moves, ticksOn, edits, undoes, redoes, asked, stepM}
 use Rattle.machine.proofs.Invariant.{Sane, Fair, Row, Back, Fore, Seen, image, Good, less, kept}
 use Rattle.machine.proofs.Checks.{player-passes, keys-pass}
+use Rattle.machine.proofs.Allows.{allows}
 
 -- the player with its keys that stands for the machine
 abbrev pub stateOf : List ℕ → Plain → Journal → State
@@ -181,27 +183,26 @@ module _ (s : List ℕ) (n : ℕ) (m : Plain) (j : Journal) (ok : sheetOk s ≡ 
       ticked-good zero w = viewed-good s n m j g v (w refl)
       ticked-good (suc k) w = later s n m j g
 
-  module _ (fair-edit : (track key : ℕ) (r : Request) → editRefusal s (m .view .selection) (keysOf s m) track key r ≡ 0 → Fair s (keysOf s m) (asked m track key r)) where
-    edit-kept : (track key : ℕ) (r : Request) → Kept s n (edit track key r) m j
-    unfolding editOf
-    edit-kept track key r = by-refusal (editRefusal s (m .view .selection) (keysOf s m) track key r) refl
-      where
-        x : Entry
-        x = entryFor s (keysOf s m) track key r
+  edit-kept : (track key : ℕ) (r : Request) → HeldRequest r → Kept s n (edit track key r) m j
+  unfolding editOf
+  edit-kept track key r held = by-refusal (editRefusal s (m .view .selection) (keysOf s m) track key r) refl
+    where
+      x : Entry
+      x = entryFor s (keysOf s m) track key r
 
-        by-refusal : (k : ℕ) → editRefusal s (m .view .selection) (keysOf s m) track key r ≡ k → Kept s n (edit track key r) m j
-        by-refusal zero e =
-            record {
-              journal = withRow j (length (m .standing)) x;
-              same = unfold replay madeEdit editedPlayer in rw (keys-passes _, e) (cc (add-one (length (m .standing))));
-              good = rw e (edit-good s n m j g (asked m track key r) (fair-edit track key r e));
-            }
-        by-refusal (suc k) e =
-            record {
-              journal = j;
-              same = rw (keys-passes _, e, suc-not k);
-              good = rw e (later s n m j g);
-            }
+      by-refusal : (k : ℕ) → editRefusal s (m .view .selection) (keysOf s m) track key r ≡ k → Kept s n (edit track key r) m j
+      by-refusal zero e =
+          record {
+            journal = withRow j (length (m .standing)) x;
+            same = unfold replay madeEdit editedPlayer in rw (keys-passes _, e) (cc (add-one (length (m .standing))));
+            good = rw e (edit-good s n m j g (asked m track key r) (allows s ok (keysOf s m) (g .sane) (asked m track key r) held e));
+          }
+      by-refusal (suc k) e =
+          record {
+            journal = j;
+            same = rw (keys-passes _, e, suc-not k);
+            good = rw e (later s n m j g);
+          }
 
 -- ---- undo and redo
 module _ (s : List ℕ) (n : ℕ) (j : Journal) (ok : sheetOk s ≡ true) (few : n < 2 ^ 40) (ks : Keys) (a d c : ℕ) (v : View) where
@@ -281,14 +282,10 @@ module _ (s : List ℕ) (n : ℕ) (j : Journal) (ok : sheetOk s ≡ true) (few :
             };
       }
 
--- an edit that is not declined may be made
-abbrev pub Allows : List ℕ → Type 0
-Allows s = (m : Plain) (track key : ℕ) (r : Request) → Sane s (keysOf s m) → editRefusal s (m .view .selection) (keysOf s m) track key r ≡ 0 → Fair s (keysOf s m) (asked m track key r)
-
-pub step-kept : (s : List ℕ) (n : ℕ) (m : Plain) (j : Journal) → sheetOk s ≡ true → Allows s → n < 2 ^ 40 → Good s n m j → (c : Call) → Kept s n c m j
-step-kept s n m j ok fair few g (play a) = play-kept s n m j ok few g a
-step-kept s n m j ok fair few g (pose a x) = pose-kept s n m j ok few g a x
-step-kept s n m j ok fair few g (tick dt fps) = tick-kept s n m j ok few g dt fps
-step-kept s n m j ok fair few g (edit track key r) = edit-kept s n m j ok few g (λ t k q. fair m t k q (g .sane)) track key r
-step-kept s n m j ok fair few g undo = undo-kept s n j ok few (m .loaded) (m .accepted) (m .undone) (m .redone) (m .view) (m .standing) (m .redo) (m .reach) g
-step-kept s n m j ok fair few g redo = redo-kept s n j ok few (m .loaded) (m .accepted) (m .undone) (m .redone) (m .view) (m .standing) (m .redo) (m .reach) g
+pub step-kept : (s : List ℕ) (n : ℕ) (m : Plain) (j : Journal) → sheetOk s ≡ true → n < 2 ^ 40 → Good s n m j → (c : Call) → HeldCall c → Kept s n c m j
+step-kept s n m j ok few g (play a) held = play-kept s n m j ok few g a
+step-kept s n m j ok few g (pose a x) held = pose-kept s n m j ok few g a x
+step-kept s n m j ok few g (tick dt fps) held = tick-kept s n m j ok few g dt fps
+step-kept s n m j ok few g (edit track key r) held = edit-kept s n m j ok few g track key r held
+step-kept s n m j ok few g undo held = undo-kept s n j ok few (m .loaded) (m .accepted) (m .undone) (m .redone) (m .view) (m .standing) (m .redo) (m .reach) g
+step-kept s n m j ok few g redo held = redo-kept s n j ok few (m .loaded) (m .accepted) (m .undone) (m .redone) (m .view) (m .standing) (m .redo) (m .reach) g

@@ -1,4 +1,4 @@
--- Demand 3: after every list of at most 2^40 calls the player is the plain machine, and has answered as it. Assumes nothing.
+-- Demand 3: after every list of at most 2^40 calls, their numbers f32, the player is the plain machine, and has answered as it. Assumes nothing.
 use mathlib.Core.Path.{_≡_, refl, ap, _∙_}
 use mathlib.Core.Bool.{true, false}
 use mathlib.Core.List.{List, []}
@@ -13,12 +13,12 @@ use Rattle.player.specs.Keys.{Keys}
 use Rattle.player.specs.Journal.{emptyJournal, whole-empty}
 use Rattle.player.specs.Player.{freshPlayer, selectionOk}
 use Rattle.player.specs.View.{View, viewOf}
-use Rattle.machine.specs.Runs.{last, answers}
-use Rattle.machine.specs.Calls.{Call, State, stepP}
+use Rattle.machine.specs.Runs.{last, answers, Each}
+use Rattle.machine.specs.Calls.{Call, HeldCall, State, stepP}
 use Rattle.machine.specs.Plain.{Plain, replay, keysOf, stepM, freshM}
 use Rattle.machine.proofs.Simulates.{runs}
 use Rattle.machine.proofs.Invariant.{Sane, image, Good}
-use Rattle.machine.proofs.Steps.{stateOf, Allows, step-kept}
+use Rattle.machine.proofs.Steps.{stateOf, step-kept}
 
 -- the player with its keys is the machine
 pub record Agree (s : List ℕ) (t : State) (m : Plain) : Type 0 where
@@ -38,10 +38,10 @@ record Related (s : List ℕ) (n : ℕ) (t : State) (m : Plain) : Type 0 where
   is : t ≡ stateOf s m journal
   good : Good s n m journal
 
-module _ (s : List ℕ) (ok : sheetOk s ≡ true) (fair : Allows s) where
-  keeps : (n : ℕ) (c : Call) (t : State) (m : Plain) → n < 2 ^ 40 → Related s n t m → Related s (suc n) (stepP s c t .0) (stepM s c m .0) × (stepP s c t .1 ≡ stepM s c m .1)
-  keeps n c t m h r =
-      let k = step-kept s n m (r .journal) ok fair h (r .good) c in
+module _ (s : List ℕ) (ok : sheetOk s ≡ true) where
+  keeps : (n : ℕ) (c : Call) (t : State) (m : Plain) → n < 2 ^ 40 → HeldCall c → Related s n t m → Related s (suc n) (stepP s c t .0) (stepM s c m .0) × (stepP s c t .1 ≡ stepM s c m .1)
+  keeps n c t m h held r =
+      let k = step-kept s n m (r .journal) ok h (r .good) c held in
       let e : stepP s c t ≡ (stateOf s (stepM s c m .0) (k .journal), stepM s c m .1) = ap (stepP s c) (r .is) ∙ k .same in
       (record { journal = k .journal; is = ap (λ x. x .0) e; good = k .good }, ap (λ x. x .1) e)
 
@@ -66,11 +66,11 @@ module _ (s : List ℕ) (ok : sheetOk s ≡ true) (fair : Allows s) where
             };
       }
 
-  pub the-player-is-the-machine : (ks : Keys) → Sane s ks → (cs : List Call) → length cs ≤ 2 ^ 40
+  pub the-player-is-the-machine : (ks : Keys) → Sane s ks → (cs : List Call) → Each HeldCall cs → length cs ≤ 2 ^ 40
       → Agree s (last (stepP s) cs (record { player = freshPlayer; keys = ks })) (last (stepM s) cs (freshM ks))
       × (answers (stepP s) cs (record { player = freshPlayer; keys = ks }) ≡ answers (stepM s) cs (freshM ks))
-  the-player-is-the-machine ks w cs h =
-      let r = runs (stepP s) (stepM s) (Related s) (2 ^ 40) keeps cs 0 (record { player = freshPlayer; keys = ks }) (freshM ks) (omega arith) (start ks w) in
+  the-player-is-the-machine ks w cs held h =
+      let r = runs (stepP s) (stepM s) HeldCall (Related s) (2 ^ 40) keeps cs held 0 (record { player = freshPlayer; keys = ks }) (freshM ks) (omega arith) (start ks w) in
       let i = r .1 .is in (
         record {
           keys = ap (λ t. t .keys) i;

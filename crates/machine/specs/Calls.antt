@@ -2,11 +2,13 @@
 -- contracts of crate menu cite. Definitions only.
 use Prim.Native.Nat.{ℕ}
 use mathlib.Core.List.{List}
-use lib.Ieee.{Float}
+use lib.Dec.{T}
+use lib.Ieee.{Float, binary32, fits}
 use Rattle.player.specs.declared.Player.{Player}
 use Rattle.player.specs.declared.Tick.{Tick}
 use Rattle.player.specs.Keys.{Keys}
 use Rattle.player.specs.declared.edit.Request.{Request}
+use Rattle.player.specs.Accepted.{HeldRequest}
 use Rattle.menu.specs.declared.playing.Played.{Played}
 use Rattle.menu.specs.declared.playing.Ticked.{Ticked}
 use Rattle.menu.specs.Calls.{Changed, playOf, poseOf, tickOf, editOf, undoOf, redoOf}
@@ -19,6 +21,15 @@ pub data Call : Type 0 where
   edit : ℕ → ℕ → Request → Call
   undo : Call
   redo : Call
+
+-- the call's numbers are f32. `Float` holds the values of every format; a call can take none but these.
+abbrev pub HeldCall : Call → Type 0
+HeldCall (play a) = Unit {0}
+HeldCall (pose a x) = T (fits binary32 x)
+HeldCall (tick dt fps) = T (fits binary32 dt) × T (fits binary32 fps)
+HeldCall (edit track key r) = HeldRequest r
+HeldCall undo = Unit {0}
+HeldCall redo = Unit {0}
 
 -- what a call answers: a refusal's number, 0 for none; and for a tick what it met
 pub data Answer : Type 0 where

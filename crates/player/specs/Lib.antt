@@ -8,3 +8,5 @@ pub mod Spot
 pub mod Undo
 pub mod Counts
 pub mod Sound
+pub mod Put
+pub mod Accepted

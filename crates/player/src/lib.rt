@@ -1,5 +1,6 @@
 // The player: what is selected and shown, and the journal of the edits that can be undone and redone.
 pub mod edit;
+pub mod fits;
 pub mod journal;
 pub mod playing;
 pub mod state;
