@@ -3,6 +3,7 @@ mod check;
 mod editing;
 mod playing;
 mod readings;
+mod undoing;
 
 pub use editing::key_edit;
 pub use editing::slope_edit;
@@ -15,3 +16,5 @@ pub use readings::ReadOne;
 pub use readings::ResolvedPane;
 pub use readings::ResolvedSrt;
 pub use readings::read_all;
+pub use undoing::redo;
+pub use undoing::undo;
