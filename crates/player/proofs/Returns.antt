@@ -1,14 +1,12 @@
 -- Laws for the functions on a key put in another's place. Assumes nothing.
 use Prim.Native.Nat.{ℕ, _+_, _<_}
-use mathlib.Core.Path.{_≡_, refl, sym, _∙_}
+use mathlib.Core.Path.{_≡_, refl, _∙_}
 use mathlib.Core.Bool.{Bool, true, false, not, _&&_, _||_}
 use mathlib.Core.List.{List}
 use borrow.Author.Tests.{ne-eqb, not-true, not-false}
 use lib.Dec.{eqb}
 use lib.ListN.{getD, length}
 use lib.Ieee.{Float, nan, le}
-use Rattle.sheet.specs.Sizes.{targetCount}
-use Rattle.sheet.specs.Checked.{Checked}
 use Rattle.keys.specs.Rules.{constant}
 use Rattle.curve.specs.declared.Key.{Key}
 use Rattle.curve.specs.Keys as curve
@@ -18,7 +16,7 @@ use Rattle.player.specs.Keys.{keys, keyAt}
 use Rattle.player.specs.Spot.{Inside}
 use Rattle.player.specs.Edit.{spotOf}
 use Rattle.player.specs.Undo.{sameKey, returnsOk}
-use Rattle.player.specs.Put.{beforeNext, fitsAt, Returnable, entry-key, entry-inside, returns-by}
+use Rattle.player.specs.Put.{beforeNext, fitsAt, Returnable, entry-inside, returns-by}
 
 -- a next key, of a curve that is not Constant
 pub next-is : (fs : List Float) (p : Spot) (frame : Float) → not (p .more) ≡ false → (p .curve ≡ constant → ⊥) → le frame (getD fs (p .at + 1) nan) ≡ beforeNext fs p frame
