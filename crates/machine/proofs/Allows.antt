@@ -7,7 +7,7 @@ use Rattle.sheet.specs.Sheet.{sheetOk}
 use Rattle.sheet.specs.Sizes.{targetCount}
 use Rattle.sheet.specs.Rows.{targetRow}
 use Rattle.sheet.specs.Checked.{Checked, checked}
-use Rattle.player.specs.Keys.{Keys, keyAt, putKey, put-length}
+use Rattle.player.specs.Keys.{Keys, put-length}
 use Rattle.player.specs.Edit.{Edit, place, edited, spotOf, madeEdit, editRefusal}
 use Rattle.player.specs.Put.{has-key, place-within, here-fits, fits-same}
 use Rattle.player.specs.Accepted.{HeldRequest, accepted-key, edit-fits, edit-keeps, edit-held}

@@ -1,20 +1,19 @@
 -- What ties a player to the plain machine: the player is an image of the machine, and its journal's used rows hold the entries of the edits. Assumes nothing.
-use mathlib.Core.Path.{_≡_, refl, sym, _∙_, ap}
+use mathlib.Core.Path.{_≡_, sym, _∙_, ap}
 use mathlib.Core.Bool.{true}
 use mathlib.Core.List.{List, [], _∷_}
 use mathlib.Core.Logic.{⊎-elim}
-use Prim.Native.Nat.{ℕ, zero, suc, _+_, _-_, _≤_, _<_, _%_}
+use Prim.Native.Nat.{ℕ, zero, suc, _+_, _≤_, _<_, _%_}
 use native.Mathlib.Nat.{eq-or-lt-of-le, le-of-suc-le-suc}
 use native.Mathlib.Omega.{arith}
 use lib.ListN.{length}
 use Rattle.float.specs.Numbers.{finite}
-use Rattle.sheet.specs.Sheet.{sheetOk}
 use Rattle.curve.specs.Before.{Held}
 use Rattle.player.specs.declared.Player.{Player}
 use Rattle.player.specs.declared.journal.Entry.{Entry}
 use Rattle.player.specs.declared.journal.Journal.{Journal}
 use Rattle.player.specs.Keys.{Keys, keyAt, Within}
-use Rattle.player.specs.Journal.{rowOf, withRow, Whole, row-same, row-other, whole-write}
+use Rattle.player.specs.Journal.{rowOf, withRow, Whole, row-other}
 use Rattle.player.specs.Player.{selectionOk, entryOk, rows}
 use Rattle.player.specs.View.{View}
 use Rattle.player.specs.Edit.{Edit, place, edited, madeEdit}

@@ -1,35 +1,34 @@
 -- Each call keeps the player an image of the machine, and both answer the same. Assumes nothing.
-use mathlib.Core.Path.{_≡_, refl, sym, ap, _∙_}
+use mathlib.Core.Path.{_≡_, refl, _∙_}
 use mathlib.Core.Bool.{Bool, true, false, not, _&&_, _||_}
 use mathlib.Core.List.{List, [], _∷_}
-use Prim.Native.Nat.{ℕ, zero, suc, _+_, _-_, _≤_, _<_, _^_, min}
+use Prim.Native.Nat.{ℕ, zero, suc, _+_, _-_, _<_, _^_, min}
 use native.Mathlib.Omega.{arith}
 use native.Mathlib.Numerals.{add-one}
-use borrow.Author.Tests.{eq-eqb, ne-eqb}
+use borrow.Author.Tests.{ne-eqb}
 use lib.Dec.{eqb, ltb}
 use lib.ListN.{length}
 use lib.Ieee.{Float, ofBits}
-use Rattle.laws.specs.Refusals.{unless, pass, passed}
+use Rattle.laws.specs.Refusals.{unless, passed}
 use Rattle.laws.specs.Tests.{and-2}
 use Rattle.float.specs.Numbers.{finite, zero'}
 use Rattle.sheet.specs.Sizes.{animationCount}
 use Rattle.sheet.specs.Sheet.{sheetOk}
-use Rattle.player.specs.declared.Player.{Player}
 use Rattle.player.specs.declared.Tick.the-variants.{Idle}
 use Rattle.player.specs.declared.journal.Entry.{Entry}
 use Rattle.player.specs.declared.journal.Journal.{Journal}
-use Rattle.player.specs.Keys.{Keys, keyAt, putKey, get-put, put-put, put-get}
-use Rattle.player.specs.Journal.{rowOf, withRow, row-same, whole-write}
+use Rattle.player.specs.Keys.{Keys, keyAt, get-put, put-put, put-get}
+use Rattle.player.specs.Journal.{withRow, row-same, whole-write}
 use Rattle.player.specs.Player.{rows, none, selectionOk}
-use Rattle.player.specs.View.{View, viewOf, withView, pickView, noView, playView, poseView, tickView, tickAnswer, ticks, tickSum, tickFrame, tickEnds, pickTick}
+use Rattle.player.specs.View.{View, pickView, noView, playView, poseView, tickView, tickAnswer, ticks, tickSum, tickFrame, tickEnds, pickTick}
 use Rattle.player.specs.declared.edit.Request.{Request}
 use Rattle.player.specs.Edit.{Edit, place, edited, madeEdit, editRefusal}
 use Rattle.player.specs.Accepted.{HeldRequest}
-use Rattle.player.specs.Undo.{sameKey, keysOkOf, returnsOk, undoRefusal, redoRefusal, undoEntry, redoEntry, undoneKeys, redoneKeys, undonePlayer, redonePlayer, editedPlayer}
-use Rattle.menu.specs.Calls.{lengthsOk, checkPlayer, checkKeys, playRest, poseRest, tickRest, tickMoves, pickPlayer, pickKeys, playOf, poseOf, tickOf, entryFor, editOf, undoOf, redoOf}
+use Rattle.player.specs.Undo.{returnsOk, undoRefusal, redoRefusal, undoEntry, redoEntry, undoneKeys, redoneKeys, undonePlayer, redonePlayer, editedPlayer}
+use Rattle.menu.specs.Calls.{checkPlayer, checkKeys, playRest, poseRest, tickRest, tickMoves, pickPlayer, playOf, poseOf, tickOf, entryFor, editOf, undoOf, redoOf}
 use Rattle.machine.specs.Calls.{Call, play, pose, tick, edit, undo, redo, HeldCall, Answer, number, ticked, State, stepP}
-use Rattle.machine.specs.Plain.{Plain, replay, keysOf, viewed, moves, ticksOn, edits, undoes, redoes, asked, stepM}
-use Rattle.machine.proofs.Invariant.{Sane, Fair, Row, Back, Fore, Seen, image, Good, less, kept}
+use Rattle.machine.specs.Plain.{Plain, replay, keysOf, viewed, moves, ticksOn, edits, asked, stepM}
+use Rattle.machine.proofs.Invariant.{Fair, Seen, image, Good, less, kept}
 use Rattle.machine.proofs.Checks.{player-passes, keys-pass}
 use Rattle.machine.proofs.Allows.{allows}
 

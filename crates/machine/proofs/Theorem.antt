@@ -1,23 +1,22 @@
 -- Demand 3: after every list of at most 2^40 calls, their numbers f32, the player is the plain machine, and has answered as it. Assumes nothing.
 use mathlib.Core.Path.{_≡_, refl, ap, _∙_}
-use mathlib.Core.Bool.{true, false}
-use mathlib.Core.List.{List, []}
+use mathlib.Core.Bool.{true}
+use mathlib.Core.List.{List}
 use Prim.Native.Nat.{ℕ, suc, _+_, _≤_, _<_, _^_}
 use native.Mathlib.Omega.{arith}
 use lib.ListN.{length}
 use lib.Ieee.{ofBits}
 use Rattle.sheet.specs.Sheet.{sheetOk}
-use Rattle.player.specs.declared.Player.{Player}
 use Rattle.player.specs.declared.journal.Journal.{Journal}
 use Rattle.player.specs.Keys.{Keys}
 use Rattle.player.specs.Journal.{emptyJournal, whole-empty}
 use Rattle.player.specs.Player.{freshPlayer, selectionOk}
-use Rattle.player.specs.View.{View, viewOf}
+use Rattle.player.specs.View.{viewOf}
 use Rattle.machine.specs.Runs.{last, answers, Each}
 use Rattle.machine.specs.Calls.{Call, HeldCall, State, stepP}
-use Rattle.machine.specs.Plain.{Plain, replay, keysOf, stepM, freshM}
+use Rattle.machine.specs.Plain.{Plain, replay, stepM, freshM}
 use Rattle.machine.proofs.Simulates.{runs}
-use Rattle.machine.proofs.Invariant.{Sane, image, Good}
+use Rattle.machine.proofs.Invariant.{Sane, Good}
 use Rattle.machine.proofs.Steps.{stateOf, step-kept}
 
 -- the player with its keys is the machine

@@ -1,29 +1,29 @@
 -- An accepted edit keeps the key rules: the key that it makes fits in its place (document 01, "Playing and editing": the clamp, and rows 6 to 10 of
 -- the table). The order of a sum and its term is known of f32 values alone: frames that binary32 holds, as each element of a lent slice, and a
 -- request whose numbers it holds. An edit leaves such frames. Assumes nothing.
-use Prim.Native.Nat.{ℕ, _+_, _-_, _<_, _≤_}
-use mathlib.Core.Path.{_≡_, refl, sym, ap, _∙_}
-use mathlib.Core.Bool.{Bool, true, false, not, cond, _&&_, _||_, true≢false, false≢true}
+use Prim.Native.Nat.{ℕ, _+_, _-_, _<_}
+use mathlib.Core.Path.{_≡_, refl, _∙_}
+use mathlib.Core.Bool.{Bool, true, false, not, cond, _&&_, _||_}
 use mathlib.Core.List.{List}
 use native.Mathlib.Omega.{arith}
 use borrow.Author.Tests.{eqb-true, eqb-false, ltb-true, not-true}
-use lib.Dec.{T, eqb, ltb}
-use lib.ListN.{getD, set, length}
+use lib.Dec.{T, eqb}
+use lib.ListN.{getD, set}
 use lib.Seq.{getD-set-same, getD-set-other}
 use lib.Ieee.{Float, nan, binary32, lt, le, fits, ofBits}
 use lib.Ieee.Fits.{add-fits, sub-fits}
 use Rattle.laws.specs.Tests.{both, and-1, and-2, T-true, true-T}
-use Rattle.laws.specs.Refusals.{unless, passed}
-use Rattle.float.specs.Numbers.{#, zero', _⊕_, _⊖_, real, finite, sameBits}
+use Rattle.laws.specs.Refusals.{passed}
+use Rattle.float.specs.Numbers.{zero', _⊕_, _⊖_, real, finite, sameBits}
 use Rattle.float.specs.Bits.{finite-real}
 use Rattle.float.specs.Rank.{le-real, le-self, le-chain, lt-or-le}
 use Rattle.float.specs.Grow.{hundredth, key-up, key-down}
 use Rattle.float.specs.Between.{between-finite, clamp-fits, clamp-in, max-fits, max-finite, max-in}
 use Rattle.float.specs.Top.{largest, key-up-finite}
-use Rattle.float.specs.Clamp.{clampOf, maxOf}
+use Rattle.float.specs.Clamp.{maxOf}
 use Rattle.float.specs.StepValue.{wholeIn16, stepValue}
 use Rattle.float.specs.Stepped.{step-whole, whole16-finite}
-use Rattle.sheet.specs.Sizes.{targetCount, keyCount}
+use Rattle.sheet.specs.Sizes.{targetCount}
 use Rattle.sheet.specs.Rows.{targetRow}
 use Rattle.sheet.specs.Checked.{Checked, target-keys}
 use Rattle.keys.specs.Rules.{constant, step, keyRule}

@@ -1,13 +1,13 @@
 -- A key put in a track's place (document 01, "Sheet and book", key rules): keys that keep the key rules still keep them exactly where the new key
 -- fits between its two neighbours, so no other key need be looked at. Assumes nothing.
-use Prim.Native.Nat.{ℕ, _+_, _-_, _<_, _≤_}
+use Prim.Native.Nat.{ℕ, _+_, _-_, _<_}
 use mathlib.Core.Path.{_≡_, refl, sym, ap, _∙_}
 use mathlib.Core.Bool.{Bool, true, false, not, cond, _&&_, _||_, false≢true}
 use mathlib.Core.List.{List}
 use native.Mathlib.Omega.{arith}
-use borrow.Author.Tests.{eqb-true, eqb-false, eq-eqb, ne-eqb, ltb-true, ltb-false}
+use borrow.Author.Tests.{eqb-true, eqb-false, ltb-true, ltb-false}
 use lib.Dec.{eqb, ltb}
-use lib.ListN.{getD, set, length, length-set}
+use lib.ListN.{getD, set, length}
 use lib.Seq.{getD-set-same, getD-set-other}
 use lib.Ieee.{Float, nan, le}
 use Rattle.laws.specs.Below.{allBelow, all-at, all-of, all-fails}
@@ -19,7 +19,7 @@ use Rattle.sheet.specs.Sizes.{targetCount, keyCount}
 use Rattle.sheet.specs.Rows.{targetRow}
 use Rattle.sheet.specs.Checked.{Checked, target-keys, target-apart}
 use Rattle.keys.specs.Rules.{constant, step, finiteKey, curveOk, trackOk, keyRules, keyRule, keyOk, curve-by-key}
-use Rattle.keys.specs.Keys.{keysOk, keys-are}
+use Rattle.keys.specs.Keys.{keys-are}
 use Rattle.keys.specs.Checked.{KeysChecked, keys-checked, frame-finite, value-finite, slope-finite, track-ok}
 use Rattle.curve.specs.declared.Key.{Key}
 use Rattle.player.specs.declared.edit.Spot.{Spot}
@@ -27,7 +27,7 @@ use Rattle.player.specs.declared.journal.Entry.{Entry}
 use Rattle.player.specs.Keys.{Keys, keyAt, putKey, put-get, put-length, Within}
 use Rattle.player.specs.Player.{hasKey, entryOk}
 use Rattle.player.specs.Edit.{place, spotOf}
-use Rattle.player.specs.Spot.{Inside, InsideAll}
+use Rattle.player.specs.Spot.{InsideAll}
 use Rattle.player.specs.Undo.{sameKey, keysOkOf, returnsOk}
 
 -- all finite

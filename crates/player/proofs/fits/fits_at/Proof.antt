@@ -1,4 +1,4 @@
-use Rattle.player.specs.Put.{finiteNumbers, fitsAt}
+use Rattle.player.proofs.Returns.{fits-made}
 use borrow.Author.Needs.{needs}
 use Rattle.player.proofs.fits.fits_at.Statement.{statement}
 use Rattle.player.proofs.fits.fits_at.Tie as tie
@@ -22,8 +22,7 @@ before-next-requires : tie.Need-before-next-requires
 before-next-requires c κs = search needs
 
 returns : tie.Need-returns
-unfolding fitsAt finiteNumbers
-returns c = cc
+returns c = fits-made _ _ _ (c .before .before .before .before .before .is-finite .ensures) (c .before .before .before .before .is-finite2 .ensures) (c .before .before .before .is-finite3 .ensures) (c .before .before .frame-before .ensures) (c .before .key-rule .ensures) (c .before-next .ensures)
 
 pub fits-at-spec : {M : Type 1} → statement M
 fits-at-spec =
