@@ -56,7 +56,7 @@ fn listed(n: usize, raw: usize) -> usize
 }
 
 // A pane's channel.
-fn pane_channel(f: Family, raw: usize) -> Found
+pub fn pane_channel(f: Family, raw: usize) -> Found
     ensures { λ r. ⌜ r ≡ paneChannel f raw ⌝ }
 {
     match f {
@@ -82,7 +82,7 @@ fn colour_place(i: usize) -> usize
 }
 
 // A material's channel. Where the family has layers, those from 3 up are skipped.
-fn material_channel(f: Family, raw: usize, layer: usize) -> Found
+pub fn material_channel(f: Family, raw: usize, layer: usize) -> Found
     ensures { λ r. ⌜ r ≡ materialChannel f raw layer ⌝ }
 {
     match f {
