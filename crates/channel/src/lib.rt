@@ -3,7 +3,10 @@ mod address;
 mod place;
 mod reach;
 
+pub use address::channel_count;
 pub use address::family_of;
+pub use address::of_material;
+pub use address::of_pane;
 pub use address::row_channel;
 pub use place::Place;
 pub use place::hits;
