@@ -2,3 +2,4 @@
 pub mod Channel
 pub mod Within
 pub mod Held
+pub mod Place

@@ -5,8 +5,9 @@ use laws::Found;
 use sheet::Target;
 ghost use mathlib.Core.Path.{_≡_};
 ghost use Prim.Native.Nat.{ℕ, _<_};
+ghost use Rattle.book.specs.Sizes.{materialCount};
 ghost use Rattle.book.specs.Checked.{CheckedBook};
-ghost use Rattle.channel.specs.Channel.{familyOf, listed, paneChannel, colourPlace, materialChannel, address, rowChannel};
+ghost use Rattle.channel.specs.Channel.{familyOf, listed, paneChannel, colourPlace, materialChannel, paneChannels, materialChannels, channelCount, ofPane, ofMaterial, address, rowChannel};
 ghost use Rattle.channel.specs.Within.{ReachedIn};
 
 // How many channels a pane has, and a material.
@@ -56,7 +57,7 @@ fn listed(n: usize, raw: usize) -> usize
 }
 
 // A pane's channel.
-fn pane_channel(f: Family, raw: usize) -> Found
+pub fn pane_channel(f: Family, raw: usize) -> Found
     ensures { λ r. ⌜ r ≡ paneChannel f raw ⌝ }
 {
     match f {
@@ -82,7 +83,7 @@ fn colour_place(i: usize) -> usize
 }
 
 // A material's channel. Where the family has layers, those from 3 up are skipped.
-fn material_channel(f: Family, raw: usize, layer: usize) -> Found
+pub fn material_channel(f: Family, raw: usize, layer: usize) -> Found
     ensures { λ r. ⌜ r ≡ materialChannel f raw layer ⌝ }
 {
     match f {
@@ -107,6 +108,30 @@ fn material_channel(f: Family, raw: usize, layer: usize) -> Found
     }
 }
 
+// How many channels a book has.
+pub fn channel_count(b: &[u8]) -> usize
+    requires { ⌜ CheckedBook (now b) ⌝ }
+    ensures { λ r. ⌜ r ≡ channelCount (now (b .entry)) ⌝ }
+{
+    book::pane_count(b) * PANE_CHANNELS + book::material_count(b) * MATERIAL_CHANNELS
+}
+
+// Channel c of pane p.
+pub fn of_pane(p: usize, c: usize) -> usize
+    requires { ⌜ (p < 65536) × (c < paneChannels) ⌝ }
+    ensures { λ r. ⌜ r ≡ ofPane p c ⌝ }
+{
+    p * PANE_CHANNELS + c
+}
+
+// Channel c of material m.
+pub fn of_material(b: &[u8], m: usize, c: usize) -> usize
+    requires { ⌜ CheckedBook (now b) × ((m < materialCount (now b)) × (c < materialChannels)) ⌝ }
+    ensures { λ r. ⌜ r ≡ ofMaterial (now (b .entry)) m c ⌝ }
+{
+    book::pane_count(b) * PANE_CHANNELS + m * MATERIAL_CHANNELS + c
+}
+
 // A channel of the row that is reached.
 fn address(b: &[u8], r: Reached, f: Family, raw: usize, layer: usize) -> Found
     requires { ⌜ CheckedBook (now b) × ReachedIn (now b) r ⌝ }
@@ -117,13 +142,13 @@ fn address(b: &[u8], r: Reached, f: Family, raw: usize, layer: usize) -> Found
             let Found::At(c) = pane_channel(f, raw) else {
                 return Found::Nothing;
             };
-            Found::At(p * PANE_CHANNELS + c)
+            Found::At(of_pane(p, c))
         }
         Reached::Material(m) => {
             let Found::At(c) = material_channel(f, raw, layer) else {
                 return Found::Nothing;
             };
-            Found::At(book::pane_count(b) * PANE_CHANNELS + m * MATERIAL_CHANNELS + c)
+            Found::At(of_material(b, m, c))
         }
         Reached::Nothing => Found::Nothing,
     }

@@ -1,7 +1,9 @@
 // What the channels of a book read while an animation is active at a frame (document 01, "Channels").
+mod single;
 mod value;
 mod whole;
 
+pub use single::read_channel;
 pub use whole::read_all;
 
 // The active animation and its frame, or nothing.

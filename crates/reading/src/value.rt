@@ -1,9 +1,12 @@
 // What a target reads, by its family and its curve's value, and a reading as a mark and a number.
 use crate::Reading;
 use channel::Family;
+use channel::family_of;
+use sheet::Target;
 ghost use mathlib.Core.Path.{_≡_};
 ghost use lib.Ieee.{toUnsigned};
-ghost use Rattle.reading.specs.Reading.{levelOf, rowOf, readAs, markOf, numberOf};
+ghost use Rattle.reading.specs.Reading.{levelOf, rowOf, readAs, rowReading, markOf, numberOf};
+ghost use Rattle.reading.specs.Ready.{ReadyRow};
 
 // A colour's level, as the Rust: round, clamp, cast.
 fn level_of(v: f32) -> u8
@@ -24,7 +27,7 @@ fn row_of(n: u16, textures: usize) -> Reading
 }
 
 // What a target of a family reads where its curve's value is v.
-pub fn read_as(f: Family, v: f32, textures: usize) -> Reading
+fn read_as(f: Family, v: f32, textures: usize) -> Reading
     ensures { λ r. ⌜ r ≡ readAs f v (toUnsigned 16 v) textures ⌝ }
 {
     match f {
@@ -38,6 +41,23 @@ pub fn read_as(f: Family, v: f32, textures: usize) -> Reading
         Family::MaterialColor => Reading::Level(level_of(v)),
         Family::Other => Reading::Nothing,
     }
+}
+
+// What a target's row reads at frame x.
+pub fn row_reading(
+    frames: &[f32],
+    values: &[f32],
+    slopes: &[f32],
+    x: f32,
+    row: Target,
+    textures: usize,
+) -> Reading
+    requires { ⌜ ReadyRow row (now frames) (now values) (now slopes) ⌝ }
+    ensures { λ r. ⌜ r ≡ rowReading textures (now (frames .entry)) (now (values .entry)) (now (slopes .entry)) x row ⌝ }
+{
+    let kind = row.curve as u8;
+    let v = curve::eval_part(kind, frames, values, slopes, row.first, row.count, x);
+    read_as(family_of(row.code), v, textures)
 }
 
 pub fn mark_of(r: Reading) -> u8

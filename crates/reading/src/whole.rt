@@ -3,38 +3,19 @@ use crate::Active;
 use crate::Reading;
 use crate::value::mark_of;
 use crate::value::number_of;
-use crate::value::read_as;
-use channel::family_of;
+use crate::value::row_reading;
 use channel::held_for;
 use channel::none_held;
 use channel::row_channel;
 use laws::Found;
-use sheet::Target;
 ghost use mathlib.Core.Path.{_≡_};
 ghost use Prim.Native.Nat.{ℕ, _<_};
 ghost use lib.ListN.{length, set};
 ghost use Rattle.laws.specs.Table.{table};
 ghost use Rattle.channel.specs.Channel.{channelCount};
-ghost use Rattle.reading.specs.Reading.{rowReading, markOf, numberOf, marksOf, numbersOf, noMark, noNumber};
-ghost use Rattle.reading.specs.Ready.{Ready, ReadyRow};
+ghost use Rattle.reading.specs.Reading.{markOf, numberOf, marksOf, numbersOf, noMark, noNumber};
+ghost use Rattle.reading.specs.Ready.{Ready};
 ghost use Rattle.reading.specs.declared.Active.the-variants as active;
-
-// What a target's row reads at frame x.
-pub fn row_reading(
-    frames: &[f32],
-    values: &[f32],
-    slopes: &[f32],
-    x: f32,
-    row: Target,
-    textures: usize,
-) -> Reading
-    requires { ⌜ ReadyRow row (now frames) (now values) (now slopes) ⌝ }
-    ensures { λ r. ⌜ r ≡ rowReading textures (now (frames .entry)) (now (values .entry)) (now (slopes .entry)) x row ⌝ }
-{
-    let kind = row.curve as u8;
-    let v = curve::eval_part(kind, frames, values, slopes, row.first, row.count, x);
-    read_as(family_of(row.code), v, textures)
-}
 
 fn clear_marks(out: &mut [u8])
     ensures { λ _. ⌜ now (out .exit) ≡ table (length (now (out .entry))) noMark ⌝ }

@@ -8,6 +8,8 @@ use Rattle.float.specs.Numbers.{_⊘_}
 use Rattle.sheet.specs.Rows.{textureName}
 use Rattle.book.specs.Rows.{paneRow, materialSrt, materialTexture}
 use Rattle.book.specs.declared.rows.Srt.{Srt}
+use Rattle.book.specs.declared.rows.Vector2.{Vector2}
+use Rattle.book.specs.declared.rows.Vector3.{Vector3}
 use Rattle.channel.specs.Channel.{ofPane, ofMaterial}
 use Rattle.reading.specs.Reading.{reading, full}
 use Rattle.reading.specs.declared.Active.{Active}
@@ -16,14 +18,14 @@ use Rattle.reading.specs.declared.Reading.the-variants.{Nothing, Number, Shown,
 use Rattle.resolve.specs.declared.Transform.{Transform}
 
 -- a reading's number, or what the book has
-unfoldable pub orNumber : Reading → Float → Float
+abbrev pub orNumber : Reading → Float → Float
 orNumber Nothing base = base
 orNumber (Number v) base = v
 orNumber (Shown b) base = base
 orNumber (Row k) base = base
 orNumber (Level l) base = base
 
-unfoldable pub orShown : Reading → Bool → Bool
+abbrev pub orShown : Reading → Bool → Bool
 orShown Nothing base = base
 orShown (Number v) base = base
 orShown (Shown b) base = b
@@ -31,28 +33,31 @@ orShown (Row k) base = base
 orShown (Level l) base = base
 
 module _ (s b : List ℕ) (fs vs ss : List Float) (a : Active) where
-  -- channel c of pane p, over what the book has
-  abbrev pub paneNumber : ℕ → ℕ → Float → Float
-  paneNumber p c base = orNumber (reading s b fs vs ss a (ofPane p c)) base
+  -- channel k of pane p, and of material m, over what the book has
+  unfoldable pub paneNumber : ℕ → ℕ → Float → Float
+  paneNumber p k base = orNumber (reading s b fs vs ss a (ofPane p k)) base
 
-  -- the Rust's resolve_transform
+  unfoldable pub materialNumber : ℕ → ℕ → Float → Float
+  materialNumber m k base = orNumber (reading s b fs vs ss a (ofMaterial b m k)) base
+
+  -- the channels of a vector, from k on
+  abbrev pub paneVector3 : ℕ → ℕ → Vector3 → Vector3
+  paneVector3 p k base = record { x = paneNumber p k (base .x); y = paneNumber p (k + 1) (base .y); z = paneNumber p (k + 2) (base .z) }
+
+  abbrev pub paneVector2 : ℕ → ℕ → Vector2 → Vector2
+  paneVector2 p k base = record { x = paneNumber p k (base .x); y = paneNumber p (k + 1) (base .y) }
+
+  abbrev pub layerVector : ℕ → ℕ → Vector2 → Vector2
+  layerVector m k base = record { x = materialNumber m k (base .x); y = materialNumber m (k + 1) (base .y) }
+
+  -- the Rust's resolve_transform: translation 0..2, rotation 3..5, scale 6 and 7, size 8 and 9
   unfoldable pub transformOf : ℕ → Transform
   transformOf p =
       record {
-        translation =
-            record {
-              x = paneNumber p 0 (paneRow b p .translation .x);
-              y = paneNumber p 1 (paneRow b p .translation .y);
-              z = paneNumber p 2 (paneRow b p .translation .z);
-            };
-        rotation =
-            record {
-              x = paneNumber p 3 (paneRow b p .rotation .x);
-              y = paneNumber p 4 (paneRow b p .rotation .y);
-              z = paneNumber p 5 (paneRow b p .rotation .z);
-            };
-        scale = record { x = paneNumber p 6 (paneRow b p .scale .x); y = paneNumber p 7 (paneRow b p .scale .y) };
-        size = record { x = paneNumber p 8 (paneRow b p .size .x); y = paneNumber p 9 (paneRow b p .size .y) };
+        translation = paneVector3 p 0 (paneRow b p .translation);
+        rotation = paneVector3 p 3 (paneRow b p .rotation);
+        scale = paneVector2 p 6 (paneRow b p .scale);
+        size = paneVector2 p 8 (paneRow b p .size);
       }
 
   unfoldable pub visibleOf : ℕ → Bool
@@ -62,25 +67,13 @@ module _ (s b : List ℕ) (fs vs ss : List Float) (a : Active) where
   unfoldable pub alphaOf : ℕ → Float
   alphaOf p = paneNumber p 11 (ofInt binary32 (pos (paneRow b p .alpha)) ⊘ full)
 
-  -- channel c of a material's layer, over what the book has
-  abbrev pub layerNumber : ℕ → ℕ → ℕ → Float → Float
-  layerNumber m layer c base = orNumber (reading s b fs vs ss a (ofMaterial b m (layer * 5 + c))) base
-
-  -- the Rust's TextureSrtAnimation::resolve
+  -- the Rust's TextureSrtAnimation::resolve: a layer's five channels
   unfoldable pub srtOf : ℕ → ℕ → Srt
   srtOf m layer =
       record {
-        translate =
-            record {
-              x = layerNumber m layer 0 (materialSrt b m layer .translate .x);
-              y = layerNumber m layer 1 (materialSrt b m layer .translate .y);
-            };
-        rotate = layerNumber m layer 2 (materialSrt b m layer .rotate);
-        scale =
-            record {
-              x = layerNumber m layer 3 (materialSrt b m layer .scale .x);
-              y = layerNumber m layer 4 (materialSrt b m layer .scale .y);
-            };
+        translate = layerVector m (layer * 5) (materialSrt b m layer .translate);
+        rotate = materialNumber m (layer * 5 + 2) (materialSrt b m layer .rotate);
+        scale = layerVector m (layer * 5 + 3) (materialSrt b m layer .scale);
       }
 
   -- the name's field: the sheet's texture name where a row overrides the slot, else the book's

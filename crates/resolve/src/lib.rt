@@ -1,4 +1,6 @@
 // Channels resolved over the book, and the cascade over its panes (document 01, "Channels").
+mod over;
+
 use book::Vector2;
 use book::Vector3;
 

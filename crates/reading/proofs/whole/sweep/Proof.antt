@@ -11,7 +11,7 @@ use Rattle.channel.proofs.row_channel.Reads as row-channel-reads
 use Rattle.channel.proofs.held_for.Reads as held-for-reads
 use Rattle.channel.proofs.none_held.Reads as none-held-reads
 use Rattle.reading.proofs.whole.put.Reads as put-reads
-use Rattle.reading.proofs.whole.row_reading.Reads as row-reading-reads
+use Rattle.reading.proofs.value.row_reading.Reads as row-reading-reads
 use Rattle.sheet.proofs.target_at.Reads as target-at-reads
 use Rattle.sheet.proofs.target_count.Reads as target-count-reads
 use Rattle.sheet.proofs.targets_at.Reads as targets-at-reads

@@ -1,9 +1,9 @@
 use Rattle.reading.specs.Reading.{rowReading, valueAt, value16At}
 use borrow.Author.Needs.{needs}
-use Rattle.reading.proofs.whole.row_reading.Statement.{statement}
-use Rattle.reading.proofs.whole.row_reading.Tie as tie
-use Rattle.reading.proofs.whole.row_reading.Reads as reads
-use Rattle.reading.proofs.whole.row_reading.Lts as lts
+use Rattle.reading.proofs.value.row_reading.Statement.{statement}
+use Rattle.reading.proofs.value.row_reading.Tie as tie
+use Rattle.reading.proofs.value.row_reading.Reads as reads
+use Rattle.reading.proofs.value.row_reading.Lts as lts
 use Rattle.curve.proofs.eval_part.Reads as eval-part-reads
 use Rattle.channel.proofs.family_of.Reads as family-of-reads
 use Rattle.reading.proofs.value.read_as.Reads as read-as-reads
