@@ -1,10 +1,11 @@
 -- What each reading is on each side of its refusal. Assumes nothing.
-use Prim.Native.Nat.{ℕ, _<_}
+use Prim.Native.Nat.{ℕ, _+_, _*_, _<_}
+use native.Mathlib.Omega.{arith}
 use mathlib.Core.Path.{_≡_, refl, sym, _∙_}
 use mathlib.Core.Bool.{Bool, true, false, not, _&&_, cond}
 use mathlib.Core.List.{List}
-use borrow.Author.Tests.{ne-eqb, eq-eqb, eqb-true}
-use lib.Dec.{eqb}
+use borrow.Author.Tests.{ne-eqb, eq-eqb, eqb-true, ltb-true, not-true, not-false}
+use lib.Dec.{eqb, ltb}
 use lib.ListN.{length}
 use lib.Ieee.{Float}
 use Rattle.laws.specs.Refusals.{unless, passed}
@@ -17,6 +18,15 @@ use Rattle.player.specs.declared.Player.{Player}
 use Rattle.player.specs.Keys.{Keys, keys}
 use Rattle.player.specs.Player.{none}
 use Rattle.player.specs.View.{View, viewOf}
+use Rattle.book.specs.Sizes.{paneCount, materialCount}
+use Rattle.book.specs.declared.rows.Srt.{Srt}
+use Rattle.reading.specs.declared.Reading.{Reading}
+use Rattle.reading.specs.declared.Reading.the-variants.{Nothing}
+use Rattle.resolve.specs.declared.Transform.{Transform}
+use Rattle.menu.specs.declared.readings.ReadOne.{ReadOne}
+use Rattle.menu.specs.declared.readings.ResolvedPane.{ResolvedPane}
+use Rattle.menu.specs.declared.readings.ResolvedSrt.{ResolvedSrt}
+use Rattle.menu.specs.Readings.{oneOf, paneOf, layerOf, noPane, noLayer}
 use Rattle.menu.specs.Readings.{checkBook, activeIn, tablesRest, tablesOf, gaveTables, readAllOf}
 use Rattle.menu.proofs.Checks.{book-rest}
 
@@ -60,3 +70,63 @@ module _ (s b : List ℕ) (p : Player) (fs vs ss : List Float) (marks : List ℕ
       → gaveTables 0 marks′ numbers′ ≡ readAllOf s b p (keys fs vs ss) marks numbers
   unfolding readAllOf tablesOf
   tables-made a marks′ numbers′ z h x y = rw (← e, z, x, y, h)
+
+-- ---- readings of one thing, by the refusal m
+module _ {n m : ℕ} (e : n ≡ m) where
+  pub one-refused : (r : Reading) → (n ≡ 0 → ⊥) → _≡_ {A = ReadOne} (record { refusal = n; reading = Nothing }) (oneOf m r)
+  unfolding oneOf
+  one-refused r d = rw (← e, ne-eqb n 0 d)
+
+  pub pane-refused : (t : Transform) (v : Bool) (a : Float) → (n ≡ 0 → ⊥) → noPane n ≡ paneOf m t v a
+  unfolding paneOf
+  pane-refused t v a d = rw (← e, ne-eqb n 0 d)
+
+  pub layer-refused : (t : Srt) → (n ≡ 0 → ⊥) → noLayer n ≡ layerOf m t
+  unfolding layerOf
+  layer-refused t d = rw (← e, ne-eqb n 0 d)
+
+module _ {m : ℕ} (e : 0 ≡ m) where
+  pub one-made : {r q : Reading} → r ≡ q → _≡_ {A = ReadOne} (record { refusal = 0; reading = r }) (oneOf m q)
+  unfolding oneOf
+  one-made h = rw (← e, h)
+
+  pub pane-made : {t u : Transform} {v w : Bool} {a b : Float} → t ≡ u → v ≡ w → a ≡ b → _≡_ {A = ResolvedPane} (record { refusal = 0; visible = v; alpha = a; transform = t }) (paneOf m u w b)
+  unfolding paneOf
+  pane-made h k l = rw (← e, h, k, l)
+
+  pub layer-made : {t u : Srt} → t ≡ u → _≡_ {A = ResolvedSrt} (record { refusal = 0; srt = t }) (layerOf m u)
+  unfolding layerOf
+  layer-made h = rw (← e, h)
+
+-- 7 is a refusal
+pub seven : _≡_ {A = ℕ} 7 0 → ⊥
+seven z = omega arith
+
+-- two tests that code joined, over a size that a call gave
+pub in-no : (i c l : ℕ) {k p : ℕ} → k ≡ p → not (ltb i k && ltb c l) ≡ true → (ltb i p && ltb c l) ≡ false
+in-no i c l {k} {p} e t = rw (← e) (not-true (ltb i k && ltb c l) t)
+
+pub in-yes : (i c l : ℕ) {k p : ℕ} → k ≡ p → not (ltb i k && ltb c l) ≡ false → (ltb i p && ltb c l) ≡ true
+in-yes i c l {k} {p} e t = rw (← e) (not-false (ltb i k && ltb c l) t)
+
+pub both-below : (i p c l : ℕ) → (ltb i p && ltb c l) ≡ true → (i < p) × (c < l)
+both-below i p c l e = (ltb-true i p (and-1 (ltb i p) (ltb c l) e), ltb-true c l (and-2 (ltb i p) (ltb c l) e))
+
+-- a channel of a pane, and of a material, is one of the book's
+pub pane-within : (b : List ℕ) (i c : ℕ) → (i < paneCount b) × (c < 28) → i * 28 + c < channelCount b
+unfolding channelCount
+pane-within b i c h = omega arith
+
+pub material-within : (b : List ℕ) (q i c : ℕ) → q ≡ paneCount b → (i < materialCount b) × (c < 30) → q * 28 + i * 30 + c < channelCount b
+unfolding channelCount
+material-within b q i c e h = omega arith
+
+-- one test likewise
+pub one-no : (i : ℕ) {k p : ℕ} → k ≡ p → not (ltb i k) ≡ true → ltb i p ≡ false
+one-no i {k} {p} e t = rw (← e) (not-true (ltb i k) t)
+
+pub one-yes : (i : ℕ) {k p : ℕ} → k ≡ p → not (ltb i k) ≡ false → ltb i p ≡ true
+one-yes i {k} {p} e t = rw (← e) (not-false (ltb i k) t)
+
+pub one-below : (i : ℕ) {k p : ℕ} → k ≡ p → not (ltb i k) ≡ false → i < p
+one-below i {k} {p} e t = ltb-true i p (one-yes i e t)

@@ -78,6 +78,13 @@ noTransform =
 abbrev pub noSrt : Srt
 noSrt = record { translate = record { x = zero'; y = zero' }; rotate = zero'; scale = record { x = zero'; y = zero' } }
 
+-- a refused pane, and a refused layer
+abbrev pub noPane : ℕ → ResolvedPane
+noPane n = record { refusal = n; visible = false; alpha = zero'; transform = noTransform }
+
+abbrev pub noLayer : ℕ → ResolvedSrt
+noLayer n = record { refusal = n; srt = noSrt }
+
 abbrev pub pickTransform : Bool → Transform → Transform → Transform
 pickTransform true a b = a
 pickTransform false a b = b

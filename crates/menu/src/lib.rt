@@ -3,6 +3,7 @@ mod check;
 mod editing;
 mod playing;
 mod readings;
+mod single;
 mod undoing;
 
 pub use editing::key_edit;
@@ -16,5 +17,9 @@ pub use readings::ReadOne;
 pub use readings::ResolvedPane;
 pub use readings::ResolvedSrt;
 pub use readings::read_all;
+pub use single::read_material;
+pub use single::read_pane;
+pub use single::resolve_pane;
+pub use single::resolve_srt;
 pub use undoing::redo;
 pub use undoing::undo;

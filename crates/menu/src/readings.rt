@@ -36,7 +36,7 @@ pub struct ResolvedSrt {
 }
 
 // What is active: nothing without a selection or a preview.
-fn active_in(p: Player) -> Active
+pub fn active_in(p: Player) -> Active
     ensures { λ r. ⌜ r ≡ activeIn (viewOf p) ⌝ }
 {
     if p.preview {

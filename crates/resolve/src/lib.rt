@@ -3,6 +3,10 @@ mod over;
 
 use book::Vector2;
 use book::Vector3;
+pub use over::resolve_alpha;
+pub use over::resolve_srt;
+pub use over::resolve_transform;
+pub use over::resolve_visible;
 
 // The Rust's ResolvedPaneTransform.
 pub struct Transform {
