@@ -15,7 +15,9 @@ use Rattle.player.specs.declared.journal.Journal.{Journal}
 use Rattle.player.specs.Journal.{rowOf}
 use Rattle.player.specs.Player.{selectionOk, entryOk, usedOk, countsOk, playerOk, most, rows}
 use Rattle.player.specs.Undo.{keysOkOf}
+use Rattle.book.specs.Book.{bookOk}
 use Rattle.menu.specs.Calls.{lengthsOk, checkPlayer, checkKeys}
+use Rattle.menu.specs.Readings.{checkBook}
 use Rattle.machine.specs.Plain.{Plain, keysOf}
 use Rattle.machine.proofs.Invariant.{Good, image, back-ok, fore-ok}
 
@@ -57,3 +59,11 @@ module _ (s : List ℕ) (n : ℕ) (m : Plain) (j : Journal) (ok : sheetOk s ≡ 
   keys-pass rest =
       pass (sheetOk s) 1 _ ok ∙ pass (lengthsOk s (keysOf s m)) 3 _ (g .sane .long) ∙ pass (keysOkOf s (keysOf s m)) 4 _ (g .sane .rules) ∙
       pass (playerOk s (image m j)) 5 rest player-ok
+
+  -- a reading is declined by what it alone looks at: the book, and its own rows
+  pub book-passes : (b : List ℕ) (rest : ℕ) → checkBook s b (image m j) (keysOf s m) rest ≡ unless (bookOk b) 2 rest
+  unfolding checkBook
+  book-passes b rest =
+      pass (sheetOk s) 1 _ ok ∙
+      ap (unless (bookOk b) 2)
+      (pass (lengthsOk s (keysOf s m)) 3 _ (g .sane .long) ∙ pass (keysOkOf s (keysOf s m)) 4 _ (g .sane .rules) ∙ pass (playerOk s (image m j)) 5 rest player-ok)

@@ -14,22 +14,25 @@ use Rattle.laws.specs.Tests.{and-2}
 use Rattle.float.specs.Numbers.{finite, zero'}
 use Rattle.sheet.specs.Sizes.{animationCount}
 use Rattle.sheet.specs.Sheet.{sheetOk}
+use Rattle.player.specs.declared.Player.{Player}
 use Rattle.player.specs.declared.Tick.the-variants.{Idle}
 use Rattle.player.specs.declared.journal.Entry.{Entry}
 use Rattle.player.specs.declared.journal.Journal.{Journal}
 use Rattle.player.specs.Keys.{Keys, keyAt, get-put, put-put, put-get}
 use Rattle.player.specs.Journal.{withRow, row-same, whole-write}
 use Rattle.player.specs.Player.{rows, none, selectionOk}
-use Rattle.player.specs.View.{View, pickView, noView, playView, poseView, tickView, tickAnswer, ticks, tickSum, tickFrame, tickEnds, pickTick}
+use Rattle.player.specs.View.{View, viewOf, pickView, noView, playView, poseView, tickView, tickAnswer, ticks, tickSum, tickFrame, tickEnds, pickTick}
 use Rattle.player.specs.declared.edit.Request.{Request}
 use Rattle.player.specs.Edit.{Edit, place, edited, madeEdit, editRefusal}
 use Rattle.player.specs.Accepted.{HeldRequest}
 use Rattle.player.specs.Undo.{returnsOk, undoRefusal, redoRefusal, undoEntry, redoEntry, undoneKeys, redoneKeys, undonePlayer, redonePlayer, editedPlayer}
 use Rattle.menu.specs.Calls.{checkPlayer, checkKeys, playRest, poseRest, tickRest, tickMoves, pickPlayer, playOf, poseOf, tickOf, entryFor, editOf, undoOf, redoOf}
-use Rattle.machine.specs.Calls.{Call, play, pose, tick, edit, undo, redo, HeldCall, Answer, number, ticked, State, stepP}
+use Rattle.menu.specs.Readings.{checkBook, readPaneOf, readMaterialOf, readAllOf, resolvePaneOf, resolveSrtOf, textureNameOf, cascadeOf}
+use Rattle.machine.specs.Asks.{Ask, paneChannel, materialChannel, all, pane, layer, texture, cascade, askRest, askRefusal, tellIn, tellOf}
+use Rattle.machine.specs.Calls.{Call, play, pose, tick, edit, undo, redo, ask, HeldCall, Answer, number, ticked, told, State, stepP}
 use Rattle.machine.specs.Plain.{Plain, replay, keysOf, viewed, moves, ticksOn, edits, asked, stepM}
 use Rattle.machine.proofs.Invariant.{Fair, Seen, image, Good, less, kept}
-use Rattle.machine.proofs.Checks.{player-passes, keys-pass}
+use Rattle.machine.proofs.Checks.{player-passes, keys-pass, book-passes}
 use Rattle.machine.proofs.Allows.{allows}
 
 -- the player with its keys that stands for the machine
@@ -281,6 +284,27 @@ module _ (s : List ℕ) (n : ℕ) (j : Journal) (ok : sheetOk s ≡ true) (few :
             };
       }
 
+-- ---- readings
+-- a call's answer depends on the player by its view, and on all else by its refusal
+tell-is : (s b : List ℕ) (p : Player) (ks : Keys) (q : Ask) → tellOf s b p ks q ≡ tellIn s b (viewOf p) ks (checkBook s b p ks (askRest b q)) q
+unfolding tellOf tellIn askRest readPaneOf readMaterialOf readAllOf resolvePaneOf resolveSrtOf textureNameOf cascadeOf
+tell-is s b p ks (paneChannel i c) = refl
+tell-is s b p ks (materialChannel m c) = refl
+tell-is s b p ks (all marks numbers) = refl
+tell-is s b p ks (pane i) = refl
+tell-is s b p ks (layer m k) = refl
+tell-is s b p ks (texture m k) = refl
+tell-is s b p ks (cascade visible alpha influence) = refl
+
+ask-kept : (s : List ℕ) (n : ℕ) (m : Plain) (j : Journal) → sheetOk s ≡ true → n < 2 ^ 40 → Good s n m j → (b : List ℕ) (q : Ask) → Kept s n (ask b q) m j
+unfolding askRefusal
+ask-kept s n m j ok few g b q =
+    record {
+      journal = j;
+      same = rw (tell-is s b (image m j) (keysOf s m) q, book-passes s n m j ok (omega arith) g b (askRest b q));
+      good = later s n m j g;
+    }
+
 pub step-kept : (s : List ℕ) (n : ℕ) (m : Plain) (j : Journal) → sheetOk s ≡ true → n < 2 ^ 40 → Good s n m j → (c : Call) → HeldCall c → Kept s n c m j
 step-kept s n m j ok few g (play a) held = play-kept s n m j ok few g a
 step-kept s n m j ok few g (pose a x) held = pose-kept s n m j ok few g a x
@@ -288,3 +312,4 @@ step-kept s n m j ok few g (tick dt fps) held = tick-kept s n m j ok few g dt fp
 step-kept s n m j ok few g (edit track key r) held = edit-kept s n m j ok few g track key r held
 step-kept s n m j ok few g undo held = undo-kept s n j ok few (m .loaded) (m .accepted) (m .undone) (m .redone) (m .view) (m .standing) (m .redo) (m .reach) g
 step-kept s n m j ok few g redo held = redo-kept s n j ok few (m .loaded) (m .accepted) (m .undone) (m .redone) (m .view) (m .standing) (m .redo) (m .reach) g
+step-kept s n m j ok few g (ask b q) held = ask-kept s n m j ok few g b q

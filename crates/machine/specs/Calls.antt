@@ -11,6 +11,7 @@ use Rattle.player.specs.declared.edit.Request.{Request}
 use Rattle.player.specs.Accepted.{HeldRequest}
 use Rattle.menu.specs.declared.playing.Played.{Played}
 use Rattle.menu.specs.declared.playing.Ticked.{Ticked}
+use Rattle.machine.specs.Asks.{Ask, Told, tellOf}
 use Rattle.menu.specs.Calls.{Changed, playOf, poseOf, tickOf, editOf, undoOf, redoOf}
 
 -- a call: what it takes, player and keys apart
@@ -21,6 +22,8 @@ pub data Call : Type 0 where
   edit : ℕ → ℕ → Request → Call
   undo : Call
   redo : Call
+  -- a reading over a book, which may be damaged
+  ask : List ℕ → Ask → Call
 
 -- the call's numbers are f32. `Float` holds the values of every format; a call can take none but these.
 abbrev pub HeldCall : Call → Type 0
@@ -30,11 +33,13 @@ HeldCall (tick dt fps) = T (fits binary32 dt) × T (fits binary32 fps)
 HeldCall (edit track key r) = HeldRequest r
 HeldCall undo = Unit {0}
 HeldCall redo = Unit {0}
+HeldCall (ask b q) = Unit {0}
 
--- what a call answers: a refusal's number, 0 for none; and for a tick what it met
+-- what a call answers: a refusal's number, 0 for none; for a tick what it met; for a reading what it tells
 pub data Answer : Type 0 where
   number : ℕ → Answer
   ticked : ℕ → Tick → Answer
+  told : Told → Answer
 
 -- a player with its keys
 pub record State : Type 0 where
@@ -58,3 +63,4 @@ stepP s (tick dt fps) t = afterTick (t .keys) (tickOf s (t .player) dt fps)
 stepP s (edit track key r) t = afterChange (editOf s (t .player) (t .keys) track key r)
 stepP s undo t = afterChange (undoOf s (t .player) (t .keys))
 stepP s redo t = afterChange (redoOf s (t .player) (t .keys))
+stepP s (ask b q) t = (t, told (tellOf s b (t .player) (t .keys) q))

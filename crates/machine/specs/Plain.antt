@@ -13,7 +13,8 @@ use Rattle.player.specs.View.{View, noView, playView, poseView, tickView, tickA
 use Rattle.player.specs.declared.edit.Request.{Request}
 use Rattle.player.specs.Edit.{Edit, madeEdit, editRefusal}
 use Rattle.menu.specs.Calls.{playRest, poseRest, tickRest}
-use Rattle.machine.specs.Calls.{Call, play, pose, tick, edit, undo, redo, Answer, number, ticked}
+use Rattle.machine.specs.Calls.{Call, play, pose, tick, edit, undo, redo, ask, Answer, number, ticked, told}
+use Rattle.machine.specs.Asks.{askRefusal, tellIn}
 
 -- Standing (document 01's word): the edits that stand, here with the newest first. `redo`: the edits that an undo moved there, the one moved last first.
 pub record Plain : Type 0 where
@@ -122,6 +123,7 @@ stepM s (tick dt fps) m = ticksOn (tickRest s (m .view) dt fps) s dt fps m
 stepM s (edit track key r) m = edits (editRefusal s (m .view .selection) (keysOf s m) track key r) m (asked m track key r)
 stepM s undo m = undoes m (m .reach) (m .standing)
 stepM s redo m = redoes m (m .redo)
+stepM s (ask b q) m = (m, told (tellIn s b (m .view) (keysOf s m) (askRefusal b q) q))
 
 -- freshly loaded
 abbrev pub freshM : Keys → Plain
