@@ -4,6 +4,8 @@ use mathlib.Core.Bool.{Bool}
 use mathlib.Core.List.{List}
 use lib.IntN.{pos}
 use lib.Ieee.{Float, binary32, ofInt}
+use Rattle.laws.specs.declared.Found.{Found}
+use Rattle.laws.specs.declared.Found.the-variants as found
 use Rattle.float.specs.Numbers.{_⊘_}
 use Rattle.sheet.specs.Rows.{textureName}
 use Rattle.book.specs.Rows.{paneRow, materialSrt, materialTexture}
@@ -31,6 +33,14 @@ orShown (Number v) base = base
 orShown (Shown b) base = b
 orShown (Row k) base = base
 orShown (Level l) base = base
+
+-- the row of the sheet's texture names that a reading names
+abbrev pub rowIn : Reading → Found
+rowIn Nothing = found.Nothing
+rowIn (Number v) = found.Nothing
+rowIn (Shown b) = found.Nothing
+rowIn (Row k) = found.At k
+rowIn (Level l) = found.Nothing
 
 module _ (s b : List ℕ) (fs vs ss : List Float) (a : Active) where
   -- channel k of pane p, and of material m, over what the book has
@@ -77,12 +87,9 @@ module _ (s b : List ℕ) (fs vs ss : List Float) (a : Active) where
       }
 
   -- the name's field: the sheet's texture name where a row overrides the slot, else the book's
-  abbrev pub nameFor : Reading → ℕ → ℕ → List ℕ
-  nameFor Nothing m slot = materialTexture b m slot
-  nameFor (Number v) m slot = materialTexture b m slot
-  nameFor (Shown x) m slot = materialTexture b m slot
-  nameFor (Row k) m slot = textureName s k
-  nameFor (Level l) m slot = materialTexture b m slot
+  abbrev pub nameFor : Found → ℕ → ℕ → List ℕ
+  nameFor (found.At k) m slot = textureName s k
+  nameFor found.Nothing m slot = materialTexture b m slot
 
   unfoldable pub textureOf : ℕ → ℕ → List ℕ
-  textureOf m slot = nameFor (reading s b fs vs ss a (ofMaterial b m (15 + slot))) m slot
+  textureOf m slot = nameFor (rowIn (reading s b fs vs ss a (ofMaterial b m (15 + slot)))) m slot

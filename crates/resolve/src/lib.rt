@@ -1,4 +1,5 @@
 // Channels resolved over the book, and the cascade over its panes (document 01, "Channels").
+mod name;
 mod over;
 
 use book::Vector2;
