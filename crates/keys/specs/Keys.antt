@@ -3,10 +3,10 @@
 -- with lists as long as it says it is the key rules themselves (`keys-are`). Assumes nothing.
 use Prim.Native.Nat.{ℕ, _+_, _*_, _<_, _≤_}
 use mathlib.Core.List.{List}
-use mathlib.Core.Bool.{Bool, true, _&&_}
+use mathlib.Core.Bool.{Bool, true, false, _&&_}
 use mathlib.Core.Path.{_≡_, refl, sym, _∙_, ap}
 use native.Mathlib.Omega.{arith}
-use borrow.Author.Tests.{leb-true, eqb-true, le-leb, eq-eqb}
+use borrow.Author.Tests.{leb-true, eqb-true, le-leb, lt-leb, eq-eqb}
 use lib.Dec.{leb, eqb}
 use lib.ListN.{length}
 use lib.Ieee.{Float}
@@ -16,7 +16,7 @@ use Rattle.sheet.specs.Sizes.{animationCount, contentCount, targetCount, keyCou
 use Rattle.sheet.specs.Rows.{targetRow}
 use Rattle.sheet.specs.Sheet.{lengthOk}
 use Rattle.sheet.specs.Checked.{Checked, length-known, target-keys}
-use Rattle.keys.specs.Rules.{finiteKey, trackOk, keyRules}
+use Rattle.keys.specs.Rules.{finiteKey, curveOk, trackOk, keyRules}
 
 -- s is as long as its sizes say, and the lists are K long
 unfoldable pub keysFit : List ℕ → List Float → List Float → List Float → Bool
@@ -28,6 +28,16 @@ heldTrack s fs vs ss t = leb (targetRow s t .first + targetRow s t .count) (keyC
 
 unfoldable pub keysOk : List ℕ → List Float → List Float → List Float → Bool
 keysOk s fs vs ss = keysFit s fs vs ss && allBelow (keyCount s) (finiteKey fs vs ss) && allBelow (targetCount s) (heldTrack s fs vs ss)
+
+-- the two answers on a track, from its fields
+module _ (s : List ℕ) (fs vs ss : List Float) (t first count : ℕ) (f : first ≡ targetRow s t .first) (c : count ≡ targetRow s t .count) (k : length fs ≡ keyCount s) where
+  pub held-not : length fs < first + count → false ≡ heldTrack s fs vs ss t
+  unfolding heldTrack
+  held-not l = rw (← f, ← c, ← k, lt-leb (first + count) (length fs) l)
+
+  pub held-by : {r : Bool} {curve : ℕ} → first + count ≤ length fs → curve ≡ targetRow s t .curve → r ≡ curveOk curve fs vs ss first count → r ≡ heldTrack s fs vs ss t
+  unfolding heldTrack trackOk
+  held-by l e h = rw (← f, ← c, ← k, ← e, le-leb (first + count) (length fs) l) h
 
 -- what `keysFit` tells, for `omega`
 pub record Fit (s : List ℕ) (fs vs ss : List Float) : Type 0 where

@@ -22,7 +22,7 @@ fn sizes_ok(s: &[u8]) -> bool
         & (u16_at(s, 10) == 0)
 }
 
-fn length_ok(s: &[u8]) -> bool
+pub fn length_ok(s: &[u8]) -> bool
     requires { ⌜ 12 ≤ length (now s) ⌝ }
     ensures { λ r. ⌜ r ≡ lengthOk (now (s .entry)) ⌝ }
 {

@@ -2,6 +2,7 @@
 mod layout;
 mod rows;
 
+pub use layout::length_ok;
 pub use layout::sheet_ok;
 pub use rows::Animation;
 pub use rows::Content;
