@@ -34,6 +34,10 @@ orShown (Shown b) base = b
 orShown (Row k) base = base
 orShown (Level l) base = base
 
+-- the book's alpha, as byte / 255
+abbrev pub bookAlpha : List ℕ → ℕ → Float
+bookAlpha b p = ofInt binary32 (pos (paneRow b p .alpha)) ⊘ full
+
 -- the row of the sheet's texture names that a reading names
 abbrev pub rowIn : Reading → Found
 rowIn Nothing = found.Nothing
@@ -73,9 +77,8 @@ module _ (s b : List ℕ) (fs vs ss : List Float) (a : Active) where
   unfoldable pub visibleOf : ℕ → Bool
   visibleOf p = orShown (reading s b fs vs ss a (ofPane p 10)) (paneRow b p .visible)
 
-  -- alpha as byte / 255
   unfoldable pub alphaOf : ℕ → Float
-  alphaOf p = paneNumber p 11 (ofInt binary32 (pos (paneRow b p .alpha)) ⊘ full)
+  alphaOf p = paneNumber p 11 (bookAlpha b p)
 
   -- the Rust's TextureSrtAnimation::resolve: a layer's five channels
   unfoldable pub srtOf : ℕ → ℕ → Srt
