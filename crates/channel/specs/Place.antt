@@ -122,6 +122,17 @@ place-hit s b a t c = go (targetRow s t) (ltb c (paneCount b * paneChannels)) re
     go row true e = in-panes b (familyOf (row .code)) (row .raw) (row .layer) c (ltb-true c _ e) (activeReach s b a (row .content))
     go row false e = in-materials b (familyOf (row .code)) (row .raw) (row .layer) c (ltb-false c _ e) (activeReach s b a (row .content)) (active-in s b a (row .content))
 
+-- the place of a pane's channel
+place-of-pane : (b : List ℕ) (p k : ℕ) → p < paneCount b → k < paneChannels → placeOf b (ofPane p k) ≡ Pane p k
+unfolding placeOf ofPane
+place-of-pane b p k l h = rw (lt-ltb (p * paneChannels + k) (paneCount b * paneChannels) (omega arith), digits-div p h, digits-mod p h)
+
+-- a target addresses channel k of pane p exactly when its family and raw number give k and its content reaches p
+pub pane-hit : (s b : List ℕ) (a t p k : ℕ) → p < paneCount b → k < paneChannels →
+    isAt (targetChannel s b a t) (ofPane p k) ≡ (isAt (paneChannel (familyOf (targetRow s t .code)) (targetRow s t .raw)) k && isPane (activeReach s b a (targetRow s t .content)) p)
+unfolding hits
+pane-hit s b a t p k l h = place-hit s b a t (ofPane p k) ∙ rw (place-of-pane b p k l h)
+
 pub placed : (b : List ℕ) (c : ℕ) → c < channelCount b → PlacedIn b (placeOf b c)
 unfolding placeOf channelCount
 placed b c l = go (ltb c (paneCount b * paneChannels)) refl

@@ -7,6 +7,7 @@ pub use address::channel_count;
 pub use address::family_of;
 pub use address::of_material;
 pub use address::of_pane;
+pub use address::pane_channel;
 pub use address::row_channel;
 pub use place::Place;
 pub use place::hits;

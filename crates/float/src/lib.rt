@@ -144,10 +144,18 @@ pub fn remainder(x: f32, y: f32) -> f32
 }
 
 // x is a value that a Step key may hold: a whole number in 0..65,535, and not -0.
+// Below 1 only +0 is one; from 65,536 on, and of a NaN, none is.
 pub fn is_whole16(x: f32) -> bool
     ensures { λ r. ⌜ r ≡ wholeIn16 x ⌝ }
 {
-    same_bits(x, cut_u16(x) as f32)
+    if x < 1.0 {
+        return same_bits(x, 0.0);
+    }
+    if x < 65536.0 {
+        let n = std::num::truncating_f32_to_u64(x);
+        return same_bits(x, n as u16 as f32);
+    }
+    false
 }
 
 // The value that a Step key takes where x is asked for.

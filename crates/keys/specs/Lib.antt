@@ -4,3 +4,4 @@ pub mod Keys
 pub mod Checked
 pub mod Stored
 pub mod Load
+pub mod Loading

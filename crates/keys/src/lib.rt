@@ -1,5 +1,10 @@
 // The keys of a sheet: their rules, and loading them.
+mod load;
 mod rules;
+mod stored;
 
+pub use load::load_keys;
+pub use load::load_refusal;
 pub use rules::curve_ok;
 pub use rules::keys_ok;
+pub use stored::key_rule;

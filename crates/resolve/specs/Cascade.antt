@@ -10,6 +10,7 @@ use Rattle.float.specs.Numbers.{one', _⊗_}
 use Rattle.book.specs.Sizes.{paneCount, noParent}
 use Rattle.book.specs.Rows.{paneRow}
 use Rattle.resolve.specs.Resolve.{visibleOf, alphaOf}
+use Rattle.resolve.specs.Own.{bitOf}
 use Rattle.reading.specs.declared.Active.{Active}
 use Rattle.resolve.specs.declared.Cascaded.{Cascaded}
 
@@ -30,21 +31,31 @@ under above visible alpha influences =
 unfoldable pub above : List Cascaded → ℕ → Cascaded
 above rows parent = cond (eqb parent noParent) root (getD rows parent root)
 
-module _ (s b : List ℕ) (fs vs ss : List Float) (a : Active) where
-  -- row p, from the rows before it
-  unfoldable pub rowOf : List Cascaded → ℕ → Cascaded
-  rowOf rows p = under (above rows (paneRow b p .parent)) (visibleOf s b fs vs ss a p) (alphaOf s b fs vs ss a p) (paneRow b p .influences)
+-- what a row gives each output: shown is 1, hidden 0
+abbrev pub shownBit : Cascaded → ℕ
+shownBit r = bitOf (r .visible)
 
+abbrev pub alphaIn : Cascaded → Float
+alphaIn r = r .alpha
+
+abbrev pub influenceIn : Cascaded → Float
+influenceIn r = r .influence
+
+-- row p, from the rows before it, with own visible and alpha by pane
+unfoldable pub rowFrom : List ℕ → (ℕ → Bool) → (ℕ → Float) → List Cascaded → ℕ → Cascaded
+rowFrom b visible alpha rows p = under (above rows (paneRow b p .parent)) (visible p) (alpha p) (paneRow b p .influences)
+
+module _ (s b : List ℕ) (fs vs ss : List Float) (a : Active) where
   -- all rows
   unfoldable pub cascade : List Cascaded
-  cascade = grow (paneCount b) rowOf
+  cascade = grow (paneCount b) (rowFrom b (visibleOf s b fs vs ss a) (alphaOf s b fs vs ss a))
 
   -- the three outputs
   unfoldable pub visibles : List ℕ
-  visibles = map (λ r. cond (r .visible) 1 0) cascade
+  visibles = map shownBit cascade
 
   unfoldable pub alphas : List Float
-  alphas = map (λ r. r .alpha) cascade
+  alphas = map alphaIn cascade
 
   unfoldable pub influences : List Float
-  influences = map (λ r. r .influence) cascade
+  influences = map influenceIn cascade

@@ -4,6 +4,8 @@ use mathlib.Core.Bool.{Bool}
 use mathlib.Core.List.{List}
 use lib.IntN.{pos}
 use lib.Ieee.{Float, binary32, ofInt}
+use Rattle.laws.specs.declared.Found.{Found}
+use Rattle.laws.specs.declared.Found.the-variants as found
 use Rattle.float.specs.Numbers.{_⊘_}
 use Rattle.sheet.specs.Rows.{textureName}
 use Rattle.book.specs.Rows.{paneRow, materialSrt, materialTexture}
@@ -31,6 +33,18 @@ orShown (Number v) base = base
 orShown (Shown b) base = b
 orShown (Row k) base = base
 orShown (Level l) base = base
+
+-- the book's alpha, as byte / 255
+abbrev pub bookAlpha : List ℕ → ℕ → Float
+bookAlpha b p = ofInt binary32 (pos (paneRow b p .alpha)) ⊘ full
+
+-- the row of the sheet's texture names that a reading names
+abbrev pub rowIn : Reading → Found
+rowIn Nothing = found.Nothing
+rowIn (Number v) = found.Nothing
+rowIn (Shown b) = found.Nothing
+rowIn (Row k) = found.At k
+rowIn (Level l) = found.Nothing
 
 module _ (s b : List ℕ) (fs vs ss : List Float) (a : Active) where
   -- channel k of pane p, and of material m, over what the book has
@@ -63,9 +77,8 @@ module _ (s b : List ℕ) (fs vs ss : List Float) (a : Active) where
   unfoldable pub visibleOf : ℕ → Bool
   visibleOf p = orShown (reading s b fs vs ss a (ofPane p 10)) (paneRow b p .visible)
 
-  -- alpha as byte / 255
   unfoldable pub alphaOf : ℕ → Float
-  alphaOf p = paneNumber p 11 (ofInt binary32 (pos (paneRow b p .alpha)) ⊘ full)
+  alphaOf p = paneNumber p 11 (bookAlpha b p)
 
   -- the Rust's TextureSrtAnimation::resolve: a layer's five channels
   unfoldable pub srtOf : ℕ → ℕ → Srt
@@ -77,12 +90,9 @@ module _ (s b : List ℕ) (fs vs ss : List Float) (a : Active) where
       }
 
   -- the name's field: the sheet's texture name where a row overrides the slot, else the book's
-  abbrev pub nameFor : Reading → ℕ → ℕ → List ℕ
-  nameFor Nothing m slot = materialTexture b m slot
-  nameFor (Number v) m slot = materialTexture b m slot
-  nameFor (Shown x) m slot = materialTexture b m slot
-  nameFor (Row k) m slot = textureName s k
-  nameFor (Level l) m slot = materialTexture b m slot
+  abbrev pub nameFor : Found → ℕ → ℕ → List ℕ
+  nameFor (found.At k) m slot = textureName s k
+  nameFor found.Nothing m slot = materialTexture b m slot
 
   unfoldable pub textureOf : ℕ → ℕ → List ℕ
-  textureOf m slot = nameFor (reading s b fs vs ss a (ofMaterial b m (15 + slot))) m slot
+  textureOf m slot = nameFor (rowIn (reading s b fs vs ss a (ofMaterial b m (15 + slot)))) m slot

@@ -1,12 +1,17 @@
 // Channels resolved over the book, and the cascade over its panes (document 01, "Channels").
+mod name;
 mod over;
+mod own;
+mod rows;
 
 use book::Vector2;
 use book::Vector3;
+pub use name::texture_name;
 pub use over::resolve_alpha;
 pub use over::resolve_srt;
 pub use over::resolve_transform;
 pub use over::resolve_visible;
+pub use rows::cascade;
 
 // The Rust's ResolvedPaneTransform.
 pub struct Transform {

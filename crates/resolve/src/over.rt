@@ -13,7 +13,7 @@ ghost use Rattle.channel.specs.Channel.{paneChannels, materialChannels};
 ghost use Rattle.reading.specs.Ready.{Ready};
 ghost use Rattle.resolve.specs.Resolve.{orNumber, orShown, paneNumber, materialNumber, paneVector2, paneVector3, layerVector, transformOf, visibleOf, alphaOf, srtOf};
 
-fn or_number(r: Reading, base: f32) -> f32
+pub fn or_number(r: Reading, base: f32) -> f32
     ensures { λ x. ⌜ x ≡ orNumber r base ⌝ }
 {
     match r {
@@ -25,7 +25,7 @@ fn or_number(r: Reading, base: f32) -> f32
     }
 }
 
-fn or_shown(r: Reading, base: bool) -> bool
+pub fn or_shown(r: Reading, base: bool) -> bool
     ensures { λ x. ⌜ x ≡ orShown r base ⌝ }
 {
     match r {

@@ -1,0 +1,61 @@
+// Loading: the keys that a sheet holds are copied into three lent arrays.
+use crate::stored::frames_at;
+use crate::stored::points_at;
+use crate::stored::stored_ok;
+ghost use mathlib.Core.Path.{_≡_};
+ghost use Prim.Native.Nat.{ℕ, _+_, _*_, _<_};
+ghost use lib.ListN.{length};
+ghost use Rattle.keys.specs.Stored.{floatsFrom, Floats};
+ghost use Rattle.keys.specs.Load.{loadRefusal, loaded, loadOf};
+
+// The numbers of the table of refusals that loading gives.
+const LAYOUT: u8 = 1;
+
+const ARRAYS: u8 = 3;
+
+const KEYS: u8 = 4;
+
+// Why arrays of these lengths can't be loaded, or 0.
+pub fn load_refusal(s: &[u8], frames: usize, values: usize, slopes: usize) -> u8
+    ensures { λ r. ⌜ r ≡ loadRefusal (now (s .entry)) frames values slopes ⌝ }
+{
+    if !sheet::sheet_ok(s) {
+        return LAYOUT;
+    }
+    let n = sheet::key_count(s);
+    if !((frames == n) & (values == n) & (slopes == n)) {
+        return ARRAYS;
+    }
+    if !stored_ok(s) {
+        return KEYS;
+    }
+    0
+}
+
+// The f32 at `at`, and those each `stride` bytes on, into a lent array.
+fn copy_floats(s: &[u8], at: usize, stride: usize, out: &mut [f32])
+    requires { ⌜ Floats (now s) at stride (length (now out)) ⌝ }
+    ensures { λ _. ⌜ now (out .exit) ≡ floatsFrom (now (s .entry)) at stride (length (now (out .entry))) ⌝ }
+{
+    let n = out.len();
+    let mut i = 0;
+    while i < n {
+        out[i] = field::f32_at(s, at + i * stride);
+        i += 1;
+    }
+}
+
+// Copies the keys of the sheet s, or declines by a number, and then changes nothing.
+pub fn load_keys(s: &[u8], frames: &mut [f32], values: &mut [f32], slopes: &mut [f32]) -> u8
+    ensures { λ r. ⌜ loaded r (now (frames .exit)) (now (values .exit)) (now (slopes .exit)) ≡ loadOf (now (s .entry)) (now (frames .entry)) (now (values .entry)) (now (slopes .entry)) ⌝ }
+{
+    let n = load_refusal(s, frames.len(), values.len(), slopes.len());
+    if n != 0 {
+        return n;
+    }
+    let points = points_at(s);
+    copy_floats(s, frames_at(s), 4, frames);
+    copy_floats(s, points, 8, values);
+    copy_floats(s, points + 4, 8, slopes);
+    0
+}
