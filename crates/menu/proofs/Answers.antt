@@ -1,12 +1,12 @@
 -- What each reading is on each side of its refusal. Assumes nothing.
-use Prim.Native.Nat.{ℕ, _+_, _*_, _<_}
+use Prim.Native.Nat.{ℕ, _+_, _*_, _<_, _≤_}
 use native.Mathlib.Omega.{arith}
 use mathlib.Core.Path.{_≡_, refl, sym, _∙_}
-use mathlib.Core.Bool.{Bool, true, false, not, _&&_, cond}
-use mathlib.Core.List.{List}
-use borrow.Author.Tests.{ne-eqb, eq-eqb, eqb-true, ltb-true, not-true, not-false}
+use mathlib.Core.Bool.{Bool, true, false, not, _&&_, cond, and-false}
+use mathlib.Core.List.{List, []}
+use borrow.Author.Tests.{ne-eqb, eq-eqb, eqb-true, ltb-true, lt-ltb, le-ltb, not-true, not-false}
 use lib.Dec.{eqb, ltb}
-use lib.ListN.{length}
+use lib.ListN.{length, take, drop}
 use lib.Ieee.{Float}
 use Rattle.laws.specs.Refusals.{unless, passed}
 use Rattle.laws.specs.Tests.{and-1, and-2}
@@ -16,8 +16,15 @@ use Rattle.reading.specs.declared.Active.{Active}
 use Rattle.reading.specs.declared.Active.the-variants as active
 use Rattle.player.specs.declared.Player.{Player}
 use Rattle.player.specs.Keys.{Keys, keys}
-use Rattle.player.specs.Player.{none}
+use Rattle.player.specs.Player.{none, freshPlayer}
 use Rattle.player.specs.View.{View, viewOf}
+use Rattle.sheet.specs.Sizes.{animationCount}
+use Rattle.sheet.specs.Rows.{nextName}
+use Rattle.sheet.specs.Sheet.{sheetOk}
+use Rattle.keys.specs.Load.{loaded, loadOf}
+use Rattle.resolve.specs.Cascade.{visibles, alphas, influences}
+use Rattle.menu.specs.Calls.{gave, loadedOf, nextNameOf}
+use Rattle.menu.specs.Readings.{cascadeRest, rowsOf, gaveRows, cascadeOf}
 use Rattle.book.specs.Sizes.{paneCount, materialCount}
 use Rattle.book.specs.declared.rows.Srt.{Srt}
 use Rattle.reading.specs.declared.Reading.{Reading}
@@ -130,3 +137,61 @@ one-yes i {k} {p} e t = rw (← e) (not-false (ltb i k) t)
 
 pub one-below : (i : ℕ) {k p : ℕ} → k ≡ p → not (ltb i k) ≡ false → i < p
 one-below i {k} {p} e t = ltb-true i p (one-yes i e t)
+
+-- ---- the cascade
+module _ (s b : List ℕ) (p : Player) (fs vs ss : List Float) (visible : List ℕ) (alpha influence : List Float) (n : ℕ) (e : n ≡ checkBook s b p (keys fs vs ss) (cascadeRest b visible alpha influence)) where
+  pub rows-refused : (n ≡ 0 → ⊥) → gaveRows n visible alpha influence ≡ cascadeOf s b p (keys fs vs ss) visible alpha influence
+  unfolding cascadeOf rowsOf
+  rows-refused d = rw (← e, ne-eqb n 0 d)
+
+  pub rows-long : n ≡ 0 → (length visible ≡ paneCount b) × ((length alpha ≡ paneCount b) × (length influence ≡ paneCount b))
+  unfolding cascadeRest
+  rows-long z =
+      let h = passed (eqb (length visible) (paneCount b) && eqb (length alpha) (paneCount b) && eqb (length influence) (paneCount b)) 13 0 tt (book-rest s b p (keys fs vs ss) _ e z) .0 in
+      let k = and-1 (eqb (length visible) (paneCount b) && eqb (length alpha) (paneCount b)) (eqb (length influence) (paneCount b)) h in (
+        eqb-true _ _ (and-1 (eqb (length visible) (paneCount b)) (eqb (length alpha) (paneCount b)) k),
+        (
+          eqb-true _ _ (and-2 (eqb (length visible) (paneCount b)) (eqb (length alpha) (paneCount b)) k),
+          eqb-true _ _ (and-2 (eqb (length visible) (paneCount b) && eqb (length alpha) (paneCount b)) (eqb (length influence) (paneCount b)) h),
+        ),
+      )
+
+  pub rows-made : (a : Active) (visible′ : List ℕ) (alpha′ influence′ : List Float) → n ≡ 0 → a ≡ activeIn (viewOf p) → visible′ ≡ visibles s b fs vs ss a → alpha′ ≡ alphas s b fs vs ss a → influence′ ≡ influences s b fs vs ss a
+      → gaveRows 0 visible′ alpha′ influence′ ≡ cascadeOf s b p (keys fs vs ss) visible alpha influence
+  unfolding cascadeOf rowsOf
+  rows-made a visible′ alpha′ influence′ z h x y w = rw (← e, z, x, y, w, h)
+
+-- ---- names: empty where the call is declined
+pub name-refused : {n m : ℕ} (x : List ℕ) → n ≡ m → (n ≡ 0 → ⊥) → [] ≡ cond (eqb m 0) x []
+name-refused {n} x e d = rw (← e, ne-eqb n 0 d)
+
+pub name-made : {m : ℕ} {x y : List ℕ} → 0 ≡ m → x ≡ y → x ≡ cond (eqb m 0) y []
+name-made e h = rw (← e, h)
+
+pub nothing : (s : List ℕ) → take 0 (drop 0 s) ≡ []
+nothing s = refl
+
+-- ---- loading
+pub load-is : (s : List ℕ) (fs vs ss fs′ vs′ ss′ : List Float) (n : ℕ) (p : Player) → loaded n fs′ vs′ ss′ ≡ loadOf s fs vs ss → p ≡ freshPlayer
+    → gave (record { refusal = n; player = p }) (keys fs′ vs′ ss′) ≡ loadedOf s (keys fs vs ss)
+unfolding loadedOf
+load-is s fs vs ss fs′ vs′ ss′ n p e f = rw (← e, f)
+
+-- ---- the next name
+pub next-no-sheet : (s : List ℕ) (a : ℕ) → sheetOk s ≡ false → [] ≡ nextNameOf s a
+unfolding nextNameOf
+next-no-sheet s a e = rw e
+
+pub next-none : (s : List ℕ) (a : ℕ) → ltb a (animationCount s) ≡ false → [] ≡ nextNameOf s a
+unfolding nextNameOf
+next-none s a e = simp (e, and-false)
+
+pub next-is : (s : List ℕ) (a : ℕ) → sheetOk s ≡ true → ltb a (animationCount s) ≡ true → nextName s a ≡ nextNameOf s a
+unfolding nextNameOf
+next-is s a e f = rw (e, f)
+
+pub next-at : (s : List ℕ) (a k : ℕ) → k ≡ animationCount s → sheetOk s ≡ true → a < k → nextName s a ≡ nextNameOf s a
+next-at s a k e ok l = next-is s a ok (lt-ltb a (animationCount s) (omega arith))
+
+pub next-past : (s : List ℕ) (a k : ℕ) → k ≡ animationCount s → k ≤ a → [] ≡ nextNameOf s a
+next-past s a k e l = next-none s a (le-ltb a (animationCount s) (omega arith))

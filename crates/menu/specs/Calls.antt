@@ -1,8 +1,8 @@
 -- What each call gives (document 01, "What a call declines"): its checks by rising number, each only where the call takes that thing, and its step
 -- where none declines. Definitions only.
 use Prim.Native.Nat.{ℕ}
-use mathlib.Core.Bool.{Bool, true, false, not, _&&_, _||_}
-use mathlib.Core.List.{List}
+use mathlib.Core.Bool.{Bool, true, false, not, _&&_, _||_, cond}
+use mathlib.Core.List.{List, []}
 use lib.Dec.{eqb, ltb}
 use lib.ListN.{length}
 use lib.Ieee.{Float}
@@ -14,8 +14,10 @@ use Rattle.player.specs.declared.Player.{Player}
 use Rattle.player.specs.declared.Tick.{Tick}
 use Rattle.player.specs.declared.Tick.the-variants.{Idle}
 use Rattle.player.specs.declared.journal.Entry.{Entry}
-use Rattle.player.specs.Keys.{Keys, keyAt, putKey}
-use Rattle.player.specs.Player.{none, playerOk}
+use Rattle.sheet.specs.Rows.{nextName}
+use Rattle.keys.specs.Load.{loadOf}
+use Rattle.player.specs.Keys.{Keys, keys, keyAt, putKey}
+use Rattle.player.specs.Player.{none, freshPlayer, playerOk}
 use Rattle.player.specs.View.{View, viewOf, withView, playView, poseView, ticks, tickSum, tickFrame, tickView, tickAnswer, pickTick}
 use Rattle.player.specs.declared.edit.Request.{Request}
 use Rattle.player.specs.Edit.{Edit, place, edited, madeEdit, editRefusal}
@@ -100,6 +102,16 @@ editOf s p ks track key r =
     changed (checkKeys s p ks (editRefusal s (p .selection) ks track key r)) p ks
     (editedPlayer p (entryFor s ks track key r))
     (putKey ks (place s track key) (edited s ks track key r))
+
+-- Loading: the sheet's keys, and a fresh player.
+unfoldable pub loadedOf : List ℕ → Keys → Changed
+loadedOf s ks =
+    let l = loadOf s (ks .frames) (ks .values) (ks .slopes) in
+    record { refusal = l .refusal; player = freshPlayer; keys = keys (l .frames) (l .values) (l .slopes) }
+
+-- the name that follows an animation: empty where the sheet is declined, or has no such animation
+unfoldable pub nextNameOf : List ℕ → ℕ → List ℕ
+nextNameOf s a = cond (sheetOk s && ltb a (animationCount s)) (nextName s a) []
 
 unfoldable pub undoOf : List ℕ → Player → Keys → Changed
 undoOf s p ks = changed (checkKeys s p ks (undoRefusal s p ks)) p ks (undonePlayer p) (undoneKeys s ks (undoEntry p))
