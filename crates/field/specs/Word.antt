@@ -7,7 +7,9 @@ use native.Mathlib.Nat.{add-comm, add-assoc, add-zero}
 use native.Mathlib.Omega.{arith}
 use borrow.Author.Tests.{eq-eqb, ne-eqb, eqb-true, eqb-false}
 use lib.Arith.{digits-div, digits-mod}
+use lib.Bits.{bitXor}
 use lib.Dec.{eqb}
+use Rattle.laws.specs.Tests.{both}
 use Rattle.laws.specs.Below.{allBelow}
 use Rattle.field.specs.Read.{byteAt, u16At, u32At}
 use Rattle.field.specs.Name.{sameByte, sameName}
@@ -15,6 +17,10 @@ use Rattle.field.specs.Name.{sameByte, sameName}
 -- the eight bytes at i
 unfoldable pub wordAt : List ℕ → ℕ → ℕ
 wordAt s i = u32At s i + u32At s (i + 4) * 4294967296
+
+-- the three words of the name at i, joined
+unfoldable pub nameSum : List ℕ → ℕ → ℕ
+nameSum s i = bitXor (bitXor (wordAt s i) (wordAt s (i + 8))) (wordAt s (i + 16))
 
 -- two numbers of two digits are equal when their digits are
 digit-pair : (m a b c d : ℕ) → a < m → b < m → eqb (a + c * m) (b + d * m) ≡ (eqb a b && eqb c d)
@@ -63,3 +69,18 @@ module _ (s t : List ℕ) (b : Bytes s) (d : Bytes t) where
   pub same-words : (i j : ℕ) → sameName s i t j ≡ (eqb (wordAt s i) (wordAt t j) && (eqb (wordAt s (i + 8)) (wordAt t (j + 8)) && eqb (wordAt s (i + 16)) (wordAt t (j + 16))))
   unfolding sameName sameByte allBelow
   same-words i j = simp (same-64, same-32, same-16, and-assoc, add-assoc, add-zero)
+
+  -- two fields whose sums differ hold two names
+  same-sum : (i j : ℕ) → sameName s i t j ≡ true → nameSum s i ≡ nameSum t j
+  unfolding nameSum
+  same-sum i j e =
+      let w = both (eqb (wordAt s i) (wordAt t j)) _ (sym (same-words i j) ∙ e) in
+      let v = both (eqb (wordAt s (i + 8)) (wordAt t (j + 8))) _ (w .1) in
+      rw (eqb-true (wordAt s i) (wordAt t j) (w .0), eqb-true (wordAt s (i + 8)) (wordAt t (j + 8)) (v .0), eqb-true (wordAt s (i + 16)) (wordAt t (j + 16)) (v .1))
+
+  pub other-sum : (i j : ℕ) → (nameSum s i ≡ nameSum t j → ⊥) → sameName s i t j ≡ false
+  other-sum i j n = go (sameName s i t j) refl
+    where
+      go : (x : Bool) → sameName s i t j ≡ x → sameName s i t j ≡ false
+      go true e = absurd (n (same-sum i j e))
+      go false e = e

@@ -50,3 +50,10 @@ T-true false t = absurd t
 
 pub true-T : (a : Bool) → a ≡ true → T a
 true-T a e = rw e tt
+
+-- two calls answered a and b, and `!(a & b)` was tested
+pub joined-no : {a b p q : Bool} → a ≡ p → b ≡ q → not (a && b) ≡ true → (p && q) ≡ false
+joined-no {a} {b} e f t = rw (← e, ← f) (not-true (a && b) t)
+
+pub joined-yes : {a b p q : Bool} → a ≡ p → b ≡ q → not (a && b) ≡ false → (p && q) ≡ true
+joined-yes {a} {b} e f t = rw (← e, ← f) (not-false (a && b) t)

@@ -1,0 +1,6 @@
+pub mod Simulates
+pub mod Invariant
+pub mod Checks
+pub mod Allows
+pub mod Steps
+pub mod Theorem

@@ -1,0 +1,69 @@
+-- The readings that demand 3 speaks of (document 01: single, whole, resolving, resolved name and cascade): what each takes beside the book, player
+-- and keys, what it answers, and its rows 7 and 13 of the table. Definitions only.
+use Prim.Native.Nat.{ℕ}
+use mathlib.Core.List.{List}
+use lib.Ieee.{Float}
+use Rattle.laws.specs.Refusals.{unless}
+use Rattle.book.specs.Book.{bookOk}
+use Rattle.player.specs.declared.Player.{Player}
+use Rattle.player.specs.Keys.{Keys}
+use Rattle.player.specs.View.{View}
+use Rattle.menu.specs.declared.readings.ReadOne.{ReadOne}
+use Rattle.menu.specs.declared.readings.ResolvedPane.{ResolvedPane}
+use Rattle.menu.specs.declared.readings.ResolvedSrt.{ResolvedSrt}
+use Rattle.menu.specs.Readings.{Tables, Rows, paneRest, paneChannelRest, materialChannelRest, layerRest, tablesRest, cascadeRest}
+use Rattle.menu.specs.Readings.{readPaneIn, readMaterialIn, readAllIn, resolvePaneIn, resolveSrtIn, textureNameIn, cascadeIn}
+use Rattle.menu.specs.Readings.{readPaneOf, readMaterialOf, readAllOf, resolvePaneOf, resolveSrtOf, textureNameOf, cascadeOf}
+
+-- a reading, with the outputs that are lent to it as they are
+pub data Ask : Type 0 where
+  paneChannel : ℕ → ℕ → Ask
+  materialChannel : ℕ → ℕ → Ask
+  all : List ℕ → List Float → Ask
+  pane : ℕ → Ask
+  layer : ℕ → ℕ → Ask
+  texture : ℕ → ℕ → Ask
+  cascade : List ℕ → List Float → List Float → Ask
+
+-- what it answers, its outputs with it
+pub data Told : Type 0 where
+  one : ReadOne → Told
+  tables : Tables → Told
+  resolvedPane : ResolvedPane → Told
+  resolvedLayer : ResolvedSrt → Told
+  name : List ℕ → Told
+  rows : Rows → Told
+
+-- rows 7 and 13
+unfoldable pub askRest : List ℕ → Ask → ℕ
+askRest b (paneChannel i c) = paneChannelRest b i c
+askRest b (materialChannel m c) = materialChannelRest b m c
+askRest b (all marks numbers) = tablesRest b marks numbers
+askRest b (pane i) = paneRest b i
+askRest b (layer m k) = layerRest b m k
+askRest b (texture m k) = layerRest b m k
+askRest b (cascade visible alpha influence) = cascadeRest b visible alpha influence
+
+-- row 2, and then those: what a reading declines where sheet, keys and player are as they should be
+unfoldable pub askRefusal : List ℕ → Ask → ℕ
+askRefusal b q = unless (bookOk b) 2 (askRest b q)
+
+-- the answer for a view over keys, by the refusal n
+unfoldable pub tellIn : List ℕ → List ℕ → View → Keys → ℕ → Ask → Told
+tellIn s b v ks n (paneChannel i c) = one (readPaneIn s b v ks n i c)
+tellIn s b v ks n (materialChannel m c) = one (readMaterialIn s b v ks n m c)
+tellIn s b v ks n (all marks numbers) = tables (readAllIn s b v ks n marks numbers)
+tellIn s b v ks n (pane i) = resolvedPane (resolvePaneIn s b v ks n i)
+tellIn s b v ks n (layer m k) = resolvedLayer (resolveSrtIn s b v ks n m k)
+tellIn s b v ks n (texture m k) = name (textureNameIn s b v ks n m k)
+tellIn s b v ks n (cascade visible alpha influence) = rows (cascadeIn s b v ks n visible alpha influence)
+
+-- the answer of the call: the definition that the contract of crate menu cites
+unfoldable pub tellOf : List ℕ → List ℕ → Player → Keys → Ask → Told
+tellOf s b p ks (paneChannel i c) = one (readPaneOf s b p ks i c)
+tellOf s b p ks (materialChannel m c) = one (readMaterialOf s b p ks m c)
+tellOf s b p ks (all marks numbers) = tables (readAllOf s b p ks marks numbers)
+tellOf s b p ks (pane i) = resolvedPane (resolvePaneOf s b p ks i)
+tellOf s b p ks (layer m k) = resolvedLayer (resolveSrtOf s b p ks m k)
+tellOf s b p ks (texture m k) = name (textureNameOf s b p ks m k)
+tellOf s b p ks (cascade visible alpha influence) = rows (cascadeOf s b p ks visible alpha influence)

@@ -1,0 +1,96 @@
+-- What follows from an edit's refusal, and what `editOf` is on each side of it. Assumes nothing.
+use Prim.Native.Nat.{ℕ, _+_, _<_, _≤_}
+use mathlib.Core.Path.{_≡_, refl, sym, _∙_, ap}
+use mathlib.Core.Bool.{Bool, true, false, not}
+use mathlib.Core.List.{List}
+use native.Mathlib.Omega.{arith}
+use borrow.Author.Tests.{ltb-true, ne-eqb}
+use lib.Dec.{eqb, ltb}
+use lib.ListN.{length, set}
+use lib.Ieee.{Float}
+use Rattle.laws.specs.Refusals.{unless, passed}
+use Rattle.laws.specs.Tests.{and-1, and-2}
+use Rattle.sheet.specs.Sizes.{targetCount, keyCount}
+use Rattle.sheet.specs.Rows.{targetRow}
+use Rattle.sheet.specs.Checked.{Checked, target-keys}
+use Rattle.curve.specs.declared.Key.{Key}
+use Rattle.curve.specs.Keys as curve
+use Rattle.player.specs.declared.Player.{Player}
+use Rattle.player.specs.declared.journal.Entry.{Entry}
+use Rattle.player.specs.declared.edit.Request.{Request}
+use Rattle.player.specs.declared.edit.Spot.{Spot}
+use Rattle.player.specs.Keys.{Keys, keys, keyAt, putKey, Within}
+use Rattle.player.specs.Player.{none, hasKey}
+use Rattle.player.specs.Edit.{place, spotOf, editedAt, edited, keyIn, editRefusal, requestRefusal}
+use Rattle.player.specs.Spot.{Inside, InsideAll}
+use Rattle.player.specs.Counts.{CanEdit}
+use Rattle.player.specs.Undo.{editedPlayer}
+use Rattle.player.specs.Sound.{Sound}
+use Rattle.menu.specs.declared.playing.Played.{Played}
+use Rattle.menu.specs.Calls.{checkKeys, Changed, gave, changed, entryFor, editOf}
+use Rattle.menu.proofs.Checks.{KeysReady, keys-ready, keys-rest}
+
+-- a key that the sheet has, over key arrays as long as the sheet says: it and its neighbours are inside
+pub inside-all : {s : List ℕ} {fs vs ss : List Float} (track key : ℕ) → Checked s → length fs ≡ keyCount s → length vs ≡ keyCount s → length ss ≡ keyCount s
+    → hasKey s track key ≡ true → InsideAll fs vs ss (spotOf s track key)
+unfolding hasKey spotOf place
+inside-all {s} {fs} {vs} {ss} track key w f v z h =
+    let t = ltb-true track (targetCount s) (and-1 (ltb track (targetCount s)) (ltb key (targetRow s track .count)) h) in
+    let k = ltb-true key (targetRow s track .count) (and-2 (ltb track (targetCount s)) (ltb key (targetRow s track .count)) h) in
+    let m = target-keys w track t in
+    record {
+      frames = record { here = omega arith; before = omega arith; after = λ e. omega (arith, ltb-true (key + 1) (targetRow s track .count) e) };
+      values = omega arith;
+      slopes = omega arith;
+    }
+
+pub inside-frames : {s : List ℕ} {fs : List Float} (track key : ℕ) → Checked s → length fs ≡ keyCount s → hasKey s track key ≡ true → Inside fs (spotOf s track key)
+inside-frames {fs = fs} track key w f h = inside-all {vs = fs} {ss = fs} track key w f f f h .frames
+
+pub has-track : (s : List ℕ) (track key : ℕ) → hasKey s track key ≡ true → track < targetCount s
+unfolding hasKey
+has-track s track key e = ltb-true track (targetCount s) (and-1 (ltb track (targetCount s)) (ltb key (targetRow s track .count)) e)
+
+pub in-has : (s : List ℕ) (a track key : ℕ) → keyIn s a track key ≡ true → hasKey s track key ≡ true
+unfolding keyIn
+in-has s a track key e = and-1 (hasKey s track key) _ e
+
+-- what an edit that is not declined has
+pub record Allowed (s : List ℕ) (p : Player) (fs vs ss : List Float) (track key : ℕ) : Type 0 where
+  pub sheet : Checked s
+  pub on : track < targetCount s
+  pub inside : InsideAll fs vs ss (spotOf s track key)
+  pub counts : CanEdit p
+
+module _ (s : List ℕ) (p : Player) (fs vs ss : List Float) (track key : ℕ) (r : Request) (n : ℕ) (e : n ≡ checkKeys s p (keys fs vs ss) (editRefusal s (p .selection) (keys fs vs ss) track key r)) where
+  pub allowed : n ≡ 0 → Allowed s p fs vs ss track key
+  unfolding editRefusal
+  allowed z =
+      let w = keys-ready s p (keys fs vs ss) _ e z in
+      let a = passed (not (eqb (p .selection) none)) 6 _ tt (keys-rest s p (keys fs vs ss) _ e z) in
+      let h = in-has s (p .selection) track key (passed (keyIn s (p .selection) track key) 7 _ tt (a .1) .0) in
+      let c = w .player .counts in
+      record {
+        sheet = w .sheet;
+        on = has-track s track key h;
+        inside = inside-all track key (w .sheet) (w .frames) (w .values) (w .slopes) h;
+        counts = record { reach = omega arith; accepted = c .accepts; standing = c .stands };
+      }
+
+  pub refused-is : (n ≡ 0 → ⊥) → gave (record { refusal = n; player = p }) (keys fs vs ss) ≡ editOf s p (keys fs vs ss) track key r
+  unfolding editOf
+  refused-is d = rw (← e, ne-eqb n 0 d)
+
+  pub made-is : (x : Spot) (b a : Key) (q : Player) (fs′ vs′ ss′ : List Float) → n ≡ 0 → x ≡ spotOf s track key → b ≡ curve.keyAt fs vs ss (x .at)
+      → a ≡ editedAt (keys fs vs ss) x r → q ≡ editedPlayer p (record { track = track; key = key; before = b; after = a })
+      → fs′ ≡ set fs (x .at) (a .frame) → vs′ ≡ set vs (x .at) (a .value) → ss′ ≡ set ss (x .at) (a .slope)
+      → gave (record { refusal = 0; player = q }) (keys fs′ vs′ ss′) ≡ editOf s p (keys fs vs ss) track key r
+  unfolding editOf entryFor edited keyAt putKey spotOf
+  made-is x b a q fs′ vs′ ss′ z l h k m f v t = rw (← e, z, m, f, v, t, k, h, l)
+
+-- a selection is none, or is not
+pub is-zero-none : {a : ℕ} → a ≡ none → not (eqb a none) ≡ false
+is-zero-none e = rw e
+
+pub not-none : {a : ℕ} → (a ≡ none → ⊥) → not (eqb a none) ≡ true
+not-none {a} d = rw (ne-eqb a none d)

@@ -1,0 +1,5 @@
+pub mod Checks
+pub mod Results
+pub mod Edits
+pub mod Undoes
+pub mod Answers

@@ -1,0 +1,146 @@
+-- What follows from the refusal of an undo or a redo, and what `undoOf` and `redoOf` are on each side of it. Assumes nothing.
+use Prim.Native.Nat.{ℕ, _+_, _-_, _<_, _≤_}
+use mathlib.Core.Path.{_≡_, refl, sym, _∙_, ap}
+use mathlib.Core.Bool.{Bool, true, false, not, _||_}
+use mathlib.Core.List.{List}
+use native.Mathlib.Omega.{arith}
+use borrow.Author.Tests.{ne-eqb, eq-eqb, eqb-false, not-true}
+use lib.Dec.{eqb}
+use lib.ListN.{length, set}
+use lib.Ieee.{Float}
+use Rattle.laws.specs.Refusals.{unless, passed, stop, skip}
+use Rattle.sheet.specs.Sizes.{targetCount, keyCount}
+use Rattle.sheet.specs.Checked.{Checked}
+use Rattle.curve.specs.declared.Key.{Key}
+use Rattle.player.specs.declared.Player.{Player}
+use Rattle.player.specs.declared.journal.Entry.{Entry}
+use Rattle.player.specs.declared.edit.Spot.{Spot}
+use Rattle.player.specs.Keys.{Keys, keys, putKey}
+use Rattle.player.specs.Player.{entryOk}
+use Rattle.player.specs.Edit.{place, spotOf}
+use Rattle.player.specs.Spot.{InsideAll}
+use Rattle.player.specs.Counts.{CanUndo, CanRedo}
+use Rattle.player.specs.Undo.{returnsOk, undoEntry, redoEntry, undoRefusal, redoRefusal, undoneKeys, redoneKeys, undonePlayer, redonePlayer}
+use Rattle.player.specs.Sound.{Sound, used-ok}
+use Rattle.menu.specs.Calls.{checkKeys, Changed, gave, changed, undoOf, redoOf}
+use Rattle.menu.proofs.Checks.{KeysReady, keys-ready, keys-rest}
+use Rattle.menu.proofs.Edits.{inside-all, has-track}
+
+-- what a call that takes an entry back or makes it again has
+pub record Taken (s : List ℕ) (fs vs ss : List Float) (e : Entry) : Type 0 where
+  pub sheet : Checked s
+  pub on : e .track < targetCount s
+  pub inside : InsideAll fs vs ss (spotOf s (e .track) (e .key))
+
+-- the entry that an undo takes, and the one that a redo takes, name a key of the sheet
+pub undo-used : {s : List ℕ} {p : Player} → Sound s p → (p .reach ≡ 0 → ⊥) → entryOk s (undoEntry p) ≡ true
+unfolding undoEntry
+undo-used {s} {p} w d = used-ok w (p .standing - 1) (omega (arith, w .counts .below)) (omega (arith, w .counts .below))
+
+pub redo-used : {s : List ℕ} {p : Player} → Sound s p → (p .redo ≡ 0 → ⊥) → entryOk s (redoEntry p) ≡ true
+unfolding redoEntry
+redo-used {s} {p} w d = used-ok w (p .standing) (omega arith) (omega arith)
+
+pub taken : {s : List ℕ} {p : Player} {fs vs ss : List Float} → KeysReady s p (keys fs vs ss) → (e : Entry) → entryOk s e ≡ true → Taken s fs vs ss e
+taken w e h = record { sheet = w .sheet; on = has-track _ (e .track) (e .key) h; inside = inside-all (e .track) (e .key) (w .sheet) (w .frames) (w .values) (w .slopes) h }
+
+-- a chain of the two rows, by whether there is an entry
+module _ (k : ℕ) (b : Bool) where
+  pub none-left : k ≡ 0 → 11 ≡ unless (eqb k 0 || b) 5 (unless (not (eqb k 0)) 11 0)
+  unfolding unless
+  none-left e = rw e
+
+  pub not-fit : (k ≡ 0 → ⊥) → b ≡ false → 5 ≡ unless (eqb k 0 || b) 5 (unless (not (eqb k 0)) 11 0)
+  unfolding unless
+  not-fit d e = rw (ne-eqb k 0 d, e)
+
+  pub fit : (k ≡ 0 → ⊥) → b ≡ true → 0 ≡ unless (eqb k 0 || b) 5 (unless (not (eqb k 0)) 11 0)
+  unfolding unless
+  fit d e = rw (ne-eqb k 0 d, e)
+
+  pub some-left : unless (eqb k 0 || b) 5 (unless (not (eqb k 0)) 11 0) ≡ 0 → k ≡ 0 → ⊥
+  some-left e = eqb-false k 0 (not-true (eqb k 0) (passed (not (eqb k 0)) 11 0 tt (passed (eqb k 0 || b) 5 _ tt e .1) .0))
+
+-- Both calls, over the entry x that they take: `left` is how many there are, the key must be as `was`, and `back` is what is put in its place.
+module _ (s : List ℕ) (p : Player) (fs vs ss : List Float) (left : ℕ) (x : Entry) (was back : Key) (n : ℕ)
+    (e : n ≡ checkKeys s p (keys fs vs ss) (unless (eqb left 0 || returnsOk s (keys fs vs ss) x was back) 5 (unless (not (eqb left 0)) 11 0))) where
+  abbrev result : Player → Changed
+  result q =
+      changed (checkKeys s p (keys fs vs ss) (unless (eqb left 0 || returnsOk s (keys fs vs ss) x was back) 5 (unless (not (eqb left 0)) 11 0))) p (keys fs vs ss) q
+      (putKey (keys fs vs ss) (place s (x .track) (x .key)) back)
+
+  pub take-refused : (q : Player) → (n ≡ 0 → ⊥) → gave (record { refusal = n; player = p }) (keys fs vs ss) ≡ result q
+  take-refused q d = rw (← e, ne-eqb n 0 d)
+
+  pub take-ready : n ≡ 0 → KeysReady s p (keys fs vs ss)
+  take-ready z = keys-ready s p (keys fs vs ss) _ e z
+
+  pub take-some : n ≡ 0 → left ≡ 0 → ⊥
+  take-some z = some-left left _ (keys-rest s p (keys fs vs ss) _ e z)
+
+  pub take-made : (q : Player) (y : Entry) (t : Spot) (r : Player) (k : Key) (fs′ vs′ ss′ : List Float) → n ≡ 0 → y ≡ x → t ≡ spotOf s (y .track) (y .key) → r ≡ q → k ≡ back
+      → fs′ ≡ set fs (t .at) (k .frame) → vs′ ≡ set vs (t .at) (k .value) → ss′ ≡ set ss (t .at) (k .slope)
+      → gave (record { refusal = 0; player = r }) (keys fs′ vs′ ss′) ≡ result q
+  unfolding putKey spotOf
+  take-made q y t r k fs′ vs′ ss′ z a b c d f v g = rw (← e, z, c, f, v, g, b, a, d)
+
+-- the counts of each
+pub can-undo : {s : List ℕ} {p : Player} → Sound s p → (p .reach ≡ 0 → ⊥) → CanUndo p
+can-undo {s} {p} w d =
+    let c = w .counts in
+    record { reach = omega arith; standing = omega (arith, c .below); redo = omega (arith, c .room); undone = c .undoes }
+
+pub can-redo : {s : List ℕ} {p : Player} → Sound s p → (p .redo ≡ 0 → ⊥) → CanRedo p
+can-redo {s} {p} w d =
+    let c = w .counts in
+    record { redo = omega arith; reach = omega (arith, c .room); redone = c .redoes; standing = c .stands }
+
+-- ---- undo
+module _ (s : List ℕ) (p : Player) (fs vs ss : List Float) (n : ℕ) (e : n ≡ checkKeys s p (keys fs vs ss) (undoRefusal s p (keys fs vs ss))) where
+  pub undo-refused : (n ≡ 0 → ⊥) → gave (record { refusal = n; player = p }) (keys fs vs ss) ≡ undoOf s p (keys fs vs ss)
+  unfolding undoOf undoRefusal undoneKeys
+  undo-refused d = take-refused s p fs vs ss (p .reach) (undoEntry p) (undoEntry p .after) (undoEntry p .before) n e (undonePlayer p) d
+
+  pub undo-can : n ≡ 0 → CanUndo p
+  unfolding undoRefusal
+  undo-can z =
+      can-undo (take-ready s p fs vs ss (p .reach) (undoEntry p) (undoEntry p .after) (undoEntry p .before) n e z .player)
+      (take-some s p fs vs ss (p .reach) (undoEntry p) (undoEntry p .after) (undoEntry p .before) n e z)
+
+  pub undo-taken : n ≡ 0 → Taken s fs vs ss (undoEntry p)
+  unfolding undoRefusal
+  undo-taken z =
+      let w = take-ready s p fs vs ss (p .reach) (undoEntry p) (undoEntry p .after) (undoEntry p .before) n e z in
+      taken w (undoEntry p) (undo-used (w .player) (take-some s p fs vs ss (p .reach) (undoEntry p) (undoEntry p .after) (undoEntry p .before) n e z))
+
+  pub undo-made : (y : Entry) (t : Spot) (r : Player) (fs′ vs′ ss′ : List Float) → n ≡ 0 → y ≡ undoEntry p → t ≡ spotOf s (y .track) (y .key) → r ≡ undonePlayer p
+      → fs′ ≡ set fs (t .at) (y .before .frame) → vs′ ≡ set vs (t .at) (y .before .value) → ss′ ≡ set ss (t .at) (y .before .slope)
+      → gave (record { refusal = 0; player = r }) (keys fs′ vs′ ss′) ≡ undoOf s p (keys fs vs ss)
+  unfolding undoOf undoRefusal undoneKeys
+  undo-made y t r fs′ vs′ ss′ z a b d f v g =
+      take-made s p fs vs ss (p .reach) (undoEntry p) (undoEntry p .after) (undoEntry p .before) n e (undonePlayer p) y t r (y .before) fs′ vs′ ss′ z a b d (ap (λ x. x .before) a) f v g
+
+-- ---- redo
+module _ (s : List ℕ) (p : Player) (fs vs ss : List Float) (n : ℕ) (e : n ≡ checkKeys s p (keys fs vs ss) (redoRefusal s p (keys fs vs ss))) where
+  pub redo-refused : (n ≡ 0 → ⊥) → gave (record { refusal = n; player = p }) (keys fs vs ss) ≡ redoOf s p (keys fs vs ss)
+  unfolding redoOf redoRefusal redoneKeys
+  redo-refused d = take-refused s p fs vs ss (p .redo) (redoEntry p) (redoEntry p .before) (redoEntry p .after) n e (redonePlayer p) d
+
+  pub redo-can : n ≡ 0 → CanRedo p
+  unfolding redoRefusal
+  redo-can z =
+      can-redo (take-ready s p fs vs ss (p .redo) (redoEntry p) (redoEntry p .before) (redoEntry p .after) n e z .player)
+      (take-some s p fs vs ss (p .redo) (redoEntry p) (redoEntry p .before) (redoEntry p .after) n e z)
+
+  pub redo-taken : n ≡ 0 → Taken s fs vs ss (redoEntry p)
+  unfolding redoRefusal
+  redo-taken z =
+      let w = take-ready s p fs vs ss (p .redo) (redoEntry p) (redoEntry p .before) (redoEntry p .after) n e z in
+      taken w (redoEntry p) (redo-used (w .player) (take-some s p fs vs ss (p .redo) (redoEntry p) (redoEntry p .before) (redoEntry p .after) n e z))
+
+  pub redo-made : (y : Entry) (t : Spot) (r : Player) (fs′ vs′ ss′ : List Float) → n ≡ 0 → y ≡ redoEntry p → t ≡ spotOf s (y .track) (y .key) → r ≡ redonePlayer p
+      → fs′ ≡ set fs (t .at) (y .after .frame) → vs′ ≡ set vs (t .at) (y .after .value) → ss′ ≡ set ss (t .at) (y .after .slope)
+      → gave (record { refusal = 0; player = r }) (keys fs′ vs′ ss′) ≡ redoOf s p (keys fs vs ss)
+  unfolding redoOf redoRefusal redoneKeys
+  redo-made y t r fs′ vs′ ss′ z a b d f v g =
+      take-made s p fs vs ss (p .redo) (redoEntry p) (redoEntry p .before) (redoEntry p .after) n e (redonePlayer p) y t r (y .after) fs′ vs′ ss′ z a b d (ap (λ x. x .after) a) f v g

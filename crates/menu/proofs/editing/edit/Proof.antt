@@ -1,0 +1,65 @@
+use Rattle.menu.proofs.Edits.{refused-is, allowed, made-is}
+use borrow.Author.Needs.{needs}
+use Rattle.menu.proofs.editing.edit.Statement.{statement}
+use Rattle.menu.proofs.editing.edit.Tie as tie
+
+edit-refusal-requires : tie.Need-edit-refusal-requires
+edit-refusal-requires c κs = search needs
+
+same-length : tie.Need-same-length
+same-length c = search needs
+
+same-length-2 : tie.Need-same-length-2
+same-length-2 c = search needs
+
+same-length-3 : tie.Need-same-length-3
+same-length-3 c = search needs
+
+returns : tie.Need-returns
+returns c = refused-is _ _ _ _ _ _ _ _ _ (c .before .edit-refusal .ensures) (c .if1 .taken)
+
+spot-of-requires : tie.Need-spot-of-requires
+spot-of-requires c κs = let w = allowed _ _ _ _ _ _ _ _ _ (c .before .edit-refusal .ensures) (c .if1 .left) in (w .sheet, w .on)
+
+key-at-requires : tie.Need-key-at-requires
+key-at-requires c κs = let w = allowed _ _ _ _ _ _ _ _ _ (c .before .before .before .before .before .edit-refusal .ensures) (c .before .before .before .before .if1 .left) in rw (c .before .before .before .spot-of .ensures) (w .inside .frames .here, w .inside .values, w .inside .slopes)
+
+edited-requires : tie.Need-edited-requires
+edited-requires c κs = let w = allowed _ _ _ _ _ _ _ _ _ (c .before .before .before .before .before .before .before .before .before .edit-refusal .ensures) (c .before .before .before .before .before .before .before .before .if1 .left) in rw (c .before .before .before .before .before .before .before .spot-of .ensures) (w .inside)
+
+put-key-requires : tie.Need-put-key-requires
+put-key-requires c κs = let w = allowed _ _ _ _ _ _ _ _ _ (c .before .before .before .before .before .before .before .before .before .before .before .before .before .edit-refusal .ensures) (c .before .before .before .before .before .before .before .before .before .before .before .before .if1 .left) in rw (c .before .before .before .before .before .before .before .before .before .before .before .spot-of .ensures) (record { frames = w .inside .frames .here; values = w .inside .values; slopes = w .inside .slopes })
+
+after-edit-requires : tie.Need-after-edit-requires
+after-edit-requires c κs = (allowed _ _ _ _ _ _ _ _ _ (c .before .before .before .before .before .before .before .before .before .before .before .before .before .before .before .before .before .before .before .before .edit-refusal .ensures) (c .before .before .before .before .before .before .before .before .before .before .before .before .before .before .before .before .before .before .before .if1 .left)) .counts
+
+same-length-4 : tie.Need-same-length-4
+same-length-4 c = search needs
+
+same-length-5 : tie.Need-same-length-5
+same-length-5 c = search needs
+
+same-length-6 : tie.Need-same-length-6
+same-length-6 c = search needs
+
+returns-2 : tie.Need-returns-2
+returns-2 c = made-is _ _ _ _ _ _ _ _ _ (c .before .before .before .before .before .before .before .before .before .before .before .before .before .before .before .before .before .before .before .before .before .edit-refusal .ensures) _ _ _ _ _ _ _ (c .before .before .before .before .before .before .before .before .before .before .before .before .before .before .before .before .before .before .before .before .if1 .left) (c .before .before .before .before .before .before .before .before .before .before .before .before .before .before .before .before .before .before .before .spot-of .ensures) (c .before .before .before .before .before .before .before .before .before .before .before .before .before .before .before .key-at .ensures) (c .before .before .before .before .before .before .before .before .before .before .before .edited .ensures) (c .after-edit .ensures) (c .before .before .before .before .before .before .before .put-key .ensures .0) (c .before .before .before .before .before .before .before .put-key .ensures .1 .0) (c .before .before .before .before .before .before .before .put-key .ensures .1 .1)
+
+pub edit-spec : {M : Type 1} → statement M
+edit-spec =
+    tie.close
+    (tie.spec
+    edit-refusal-requires
+    same-length
+    same-length-2
+    same-length-3
+    returns
+    spot-of-requires
+    key-at-requires
+    edited-requires
+    put-key-requires
+    after-edit-requires
+    same-length-4
+    same-length-5
+    same-length-6
+    returns-2)

@@ -1,0 +1,28 @@
+use mathlib.Core.Path.{refl, sym, _∙_, ap}
+use Rattle.laws.specs.Refusals.{stop, skip}
+use Rattle.menu.specs.Readings.{tablesRest}
+use Rattle.menu.proofs.Checks.{book-stop, book-go, book-ready}
+use borrow.Author.Needs.{needs}
+use Rattle.menu.proofs.readings.read_all_refusal.Statement.{statement}
+use Rattle.menu.proofs.readings.read_all_refusal.Tie as tie
+
+check-book-requires : tie.Need-check-book-requires
+check-book-requires c κs = search needs
+
+returns : tie.Need-returns
+returns c = book-stop _ _ _ _ _ (c .before .check-book .ensures) (c .if1 .taken)
+
+channel-count-requires : tie.Need-channel-count-requires
+channel-count-requires c κs = book-ready _ _ _ _ 0 (c .before .check-book .ensures) (c .if1 .left) .ready .book
+
+returns-2 : tie.Need-returns-2
+unfolding tablesRest
+returns-2 c = book-go _ _ _ _ _ (c .before .before .before .check-book .ensures) (c .before .before .if1 .left) (skip _ 13 _ 0 (rw (← c .before .channel-count .ensures) (c .if2 .taken)) refl)
+
+returns-3 : tie.Need-returns-3
+unfolding tablesRest
+returns-3 c = book-go _ _ _ _ _ (c .before .before .before .check-book .ensures) (c .before .before .if1 .left) (stop _ 13 _ (rw (← c .before .channel-count .ensures) (c .if2 .left)))
+
+pub read-all-refusal-spec : {M : Type 1} → statement M
+read-all-refusal-spec =
+    tie.close (tie.spec check-book-requires returns channel-count-requires returns-2 returns-3)

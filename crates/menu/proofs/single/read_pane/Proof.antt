@@ -1,0 +1,54 @@
+use mathlib.Core.Path.{refl, sym, _∙_, ap}
+use native.Mathlib.Omega.{arith}
+use Rattle.laws.specs.Refusals.{stop, skip}
+use Rattle.menu.proofs.Checks.{book-stop, book-go, book-ready}
+use Rattle.menu.specs.Readings.{readPaneOf, paneChannelRest}
+use Rattle.channel.specs.Channel.{ofPane}
+use Rattle.menu.proofs.Answers.{one-refused, one-made, in-no, in-yes, both-below, pane-within, seven}
+use borrow.Author.Needs.{needs}
+use Rattle.menu.proofs.single.read_pane.Statement.{statement}
+use Rattle.menu.proofs.single.read_pane.Tie as tie
+
+check-book-requires : tie.Need-check-book-requires
+check-book-requires c κs = search needs
+
+returns : tie.Need-returns
+unfolding readPaneOf
+returns c = one-refused (book-stop _ _ _ _ _ (c .before .check-book .ensures) (c .if1 .taken)) _ (c .if1 .taken)
+
+pane-count-requires : tie.Need-pane-count-requires
+pane-count-requires c κs = (let w = book-ready _ _ _ _ 0 (c .before .check-book .ensures) (c .if1 .left) .ready .book in omega arith)
+
+returns-2 : tie.Need-returns-2
+unfolding readPaneOf paneChannelRest
+returns-2 c = one-refused (book-go _ _ _ _ _ (c .before .before .before .check-book .ensures) (c .before .before .if1 .left) (stop _ 7 _ (in-no (c .before .before .before .before .before .before .before .before .before .args .pane) (c .before .before .before .before .before .before .before .before .before .args .channel) 28 (c .before .pane-count .ensures) (c .if2 .taken)))) _ seven
+
+mul-at : tie.Need-mul-at
+mul-at c = search needs
+
+add-at : tie.Need-add-at
+add-at c = search needs
+
+active-in-requires : tie.Need-active-in-requires
+active-in-requires c κs = search needs
+
+read-channel-requires : tie.Need-read-channel-requires
+read-channel-requires c κs = (book-ready _ _ _ _ 0 (c .before .before .before .before .check-book .ensures) (c .before .before .before .if1 .left) .ready, pane-within _ _ _ (both-below (c .before .before .before .before .before .before .before .before .before .before .args .pane) _ (c .before .before .before .before .before .before .before .before .before .before .args .channel) 28 (in-yes (c .before .before .before .before .before .before .before .before .before .before .args .pane) (c .before .before .before .before .before .before .before .before .before .before .args .channel) 28 (c .before .before .pane-count .ensures) (c .before .if2 .left))))
+
+returns-3 : tie.Need-returns-3
+unfolding readPaneOf paneChannelRest ofPane
+returns-3 c = one-made (book-go _ _ _ _ _ (c .before .before .before .before .before .check-book .ensures) (c .before .before .before .before .if1 .left) (skip _ 7 _ 0 (in-yes (c .before .before .before .before .before .before .before .before .before .before .before .args .pane) (c .before .before .before .before .before .before .before .before .before .before .before .args .channel) 28 (c .before .before .before .pane-count .ensures) (c .before .before .if2 .left)) refl)) (rw (← c .before .active-in .ensures) (c .read-channel .ensures))
+
+pub read-pane-spec : {M : Type 1} → statement M
+read-pane-spec =
+    tie.close
+    (tie.spec
+    check-book-requires
+    returns
+    pane-count-requires
+    returns-2
+    mul-at
+    add-at
+    active-in-requires
+    read-channel-requires
+    returns-3)

@@ -1,0 +1,181 @@
+-- What each reading gives (document 01, "Channels" and "What a call declines"): refusals 1 to 5, 7 and 13 by rising number, and the answer where
+-- none declines. What is answered depends on the player only by its view. Definitions only.
+use Prim.Native.Nat.{ℕ}
+use mathlib.Core.Bool.{Bool, true, false, not, _&&_, cond}
+use mathlib.Core.List.{List, []}
+use lib.Dec.{eqb, ltb}
+use lib.ListN.{length}
+use lib.Ieee.{Float}
+use Rattle.laws.specs.Refusals.{unless}
+use Rattle.float.specs.Numbers.{zero'}
+use Rattle.sheet.specs.Sheet.{sheetOk}
+use Rattle.book.specs.Sizes.{paneCount, materialCount}
+use Rattle.book.specs.Book.{bookOk}
+use Rattle.book.specs.declared.rows.Srt.{Srt}
+use Rattle.channel.specs.Channel.{paneChannels, materialChannels, channelCount, ofPane, ofMaterial}
+use Rattle.reading.specs.Reading.{reading, marksOf, numbersOf}
+use Rattle.reading.specs.declared.Active.{Active}
+use Rattle.reading.specs.declared.Active.the-variants as active
+use Rattle.reading.specs.declared.Reading.{Reading}
+use Rattle.reading.specs.declared.Reading.the-variants.{Nothing}
+use Rattle.resolve.specs.Resolve.{transformOf, visibleOf, alphaOf, srtOf, textureOf}
+use Rattle.resolve.specs.Cascade.{visibles, alphas, influences}
+use Rattle.resolve.specs.declared.Transform.{Transform}
+use Rattle.player.specs.declared.Player.{Player}
+use Rattle.player.specs.Keys.{Keys}
+use Rattle.player.specs.Player.{none, playerOk}
+use Rattle.player.specs.View.{View, viewOf}
+use Rattle.player.specs.Undo.{keysOkOf}
+use Rattle.menu.specs.Calls.{lengthsOk}
+use Rattle.menu.specs.declared.readings.ReadOne.{ReadOne}
+use Rattle.menu.specs.declared.readings.ResolvedPane.{ResolvedPane}
+use Rattle.menu.specs.declared.readings.ResolvedSrt.{ResolvedSrt}
+
+-- a call that takes sheet, book, keys and player
+unfoldable pub checkBook : List ℕ → List ℕ → Player → Keys → ℕ → ℕ
+checkBook s b p ks rest =
+    unless (sheetOk s) 1 (unless (bookOk b) 2 (unless (lengthsOk s ks) 3 (unless (keysOkOf s ks) 4 (unless (playerOk s p) 5 rest))))
+
+-- With nothing selected, or preview off, nothing is active.
+unfoldable pub activeIn : View → Active
+activeIn v = cond (v .preview && not (eqb (v .selection) none)) (active.At (v .selection) (v .frame)) active.Nothing
+
+-- ---- row 7: no such pane, material, channel, layer or slot
+
+unfoldable pub paneRest : List ℕ → ℕ → ℕ
+paneRest b pane = unless (ltb pane (paneCount b)) 7 0
+
+unfoldable pub paneChannelRest : List ℕ → ℕ → ℕ → ℕ
+paneChannelRest b pane c = unless (ltb pane (paneCount b) && ltb c paneChannels) 7 0
+
+unfoldable pub materialChannelRest : List ℕ → ℕ → ℕ → ℕ
+materialChannelRest b m c = unless (ltb m (materialCount b) && ltb c materialChannels) 7 0
+
+-- a material's layer, and its texture slot: three of each
+unfoldable pub layerRest : List ℕ → ℕ → ℕ → ℕ
+layerRest b m layer = unless (ltb m (materialCount b) && ltb layer 3) 7 0
+
+-- ---- row 13: outputs not exactly as long
+
+unfoldable pub tablesRest : List ℕ → List ℕ → List Float → ℕ
+tablesRest b marks numbers = unless (eqb (length marks) (channelCount b) && eqb (length numbers) (channelCount b)) 13 0
+
+unfoldable pub cascadeRest : List ℕ → List ℕ → List Float → List Float → ℕ
+cascadeRest b visible alpha influence =
+    unless (eqb (length visible) (paneCount b) && eqb (length alpha) (paneCount b) && eqb (length influence) (paneCount b)) 13 0
+
+-- ---- the answers, by the refusal n. Refused numbers are +0, and what was lent is as it was.
+
+abbrev pub noTransform : Transform
+noTransform =
+    record {
+      translation = record { x = zero'; y = zero'; z = zero' };
+      rotation = record { x = zero'; y = zero'; z = zero' };
+      scale = record { x = zero'; y = zero' };
+      size = record { x = zero'; y = zero' };
+    }
+
+abbrev pub noSrt : Srt
+noSrt = record { translate = record { x = zero'; y = zero' }; rotate = zero'; scale = record { x = zero'; y = zero' } }
+
+-- a refused pane, and a refused layer
+abbrev pub noPane : ℕ → ResolvedPane
+noPane n = record { refusal = n; visible = false; alpha = zero'; transform = noTransform }
+
+abbrev pub noLayer : ℕ → ResolvedSrt
+noLayer n = record { refusal = n; srt = noSrt }
+
+abbrev pub pickTransform : Bool → Transform → Transform → Transform
+pickTransform true a b = a
+pickTransform false a b = b
+
+abbrev pub pickSrt : Bool → Srt → Srt → Srt
+pickSrt true a b = a
+pickSrt false a b = b
+
+unfoldable pub oneOf : ℕ → Reading → ReadOne
+oneOf n r = record { refusal = n; reading = cond (eqb n 0) r Nothing }
+
+unfoldable pub paneOf : ℕ → Transform → Bool → Float → ResolvedPane
+paneOf n t v a =
+    record { refusal = n; visible = eqb n 0 && v; alpha = cond (eqb n 0) a zero'; transform = pickTransform (eqb n 0) t noTransform }
+
+unfoldable pub layerOf : ℕ → Srt → ResolvedSrt
+layerOf n t = record { refusal = n; srt = pickSrt (eqb n 0) t noSrt }
+
+-- what a call leaves in two tables, and in three
+pub record Tables : Type 0 where
+  pub refusal : ℕ
+  pub marks : List ℕ
+  pub numbers : List Float
+
+abbrev pub gaveTables : ℕ → List ℕ → List Float → Tables
+gaveTables n marks numbers = record { refusal = n; marks = marks; numbers = numbers }
+
+unfoldable pub tablesOf : ℕ → List ℕ → List Float → List ℕ → List Float → Tables
+tablesOf n made made′ marks numbers = record { refusal = n; marks = cond (eqb n 0) made marks; numbers = cond (eqb n 0) made′ numbers }
+
+pub record Rows : Type 0 where
+  pub refusal : ℕ
+  pub visible : List ℕ
+  pub alpha : List Float
+  pub influence : List Float
+
+abbrev pub gaveRows : ℕ → List ℕ → List Float → List Float → Rows
+gaveRows n visible alpha influence = record { refusal = n; visible = visible; alpha = alpha; influence = influence }
+
+unfoldable pub rowsOf : ℕ → List ℕ → List Float → List Float → List ℕ → List Float → List Float → Rows
+rowsOf n made made′ made″ visible alpha influence =
+    record { refusal = n; visible = cond (eqb n 0) made visible; alpha = cond (eqb n 0) made′ alpha; influence = cond (eqb n 0) made″ influence }
+
+-- ---- the readings of a view over keys, each with the refusal n
+module _ (s b : List ℕ) (v : View) (ks : Keys) (n : ℕ) where
+  abbrev pub readPaneIn : ℕ → ℕ → ReadOne
+  readPaneIn pane c = oneOf n (reading s b (ks .frames) (ks .values) (ks .slopes) (activeIn v) (ofPane pane c))
+
+  abbrev pub readMaterialIn : ℕ → ℕ → ReadOne
+  readMaterialIn m c = oneOf n (reading s b (ks .frames) (ks .values) (ks .slopes) (activeIn v) (ofMaterial b m c))
+
+  abbrev pub readAllIn : List ℕ → List Float → Tables
+  readAllIn marks numbers =
+      tablesOf n (marksOf s b (ks .frames) (ks .values) (ks .slopes) (activeIn v)) (numbersOf s b (ks .frames) (ks .values) (ks .slopes) (activeIn v)) marks numbers
+
+  abbrev pub resolvePaneIn : ℕ → ResolvedPane
+  resolvePaneIn pane =
+      paneOf n (transformOf s b (ks .frames) (ks .values) (ks .slopes) (activeIn v) pane) (visibleOf s b (ks .frames) (ks .values) (ks .slopes) (activeIn v) pane)
+      (alphaOf s b (ks .frames) (ks .values) (ks .slopes) (activeIn v) pane)
+
+  abbrev pub resolveSrtIn : ℕ → ℕ → ResolvedSrt
+  resolveSrtIn m layer = layerOf n (srtOf s b (ks .frames) (ks .values) (ks .slopes) (activeIn v) m layer)
+
+  -- a resolved texture name is a part of the sheet or of the book, empty where the call is declined
+  abbrev pub textureNameIn : ℕ → ℕ → List ℕ
+  textureNameIn m slot = cond (eqb n 0) (textureOf s b (ks .frames) (ks .values) (ks .slopes) (activeIn v) m slot) []
+
+  abbrev pub cascadeIn : List ℕ → List Float → List Float → Rows
+  cascadeIn visible alpha influence =
+      rowsOf n (visibles s b (ks .frames) (ks .values) (ks .slopes) (activeIn v)) (alphas s b (ks .frames) (ks .values) (ks .slopes) (activeIn v))
+      (influences s b (ks .frames) (ks .values) (ks .slopes) (activeIn v)) visible alpha influence
+
+-- ---- the calls
+module _ (s b : List ℕ) (p : Player) (ks : Keys) where
+  unfoldable pub readPaneOf : ℕ → ℕ → ReadOne
+  readPaneOf pane c = readPaneIn s b (viewOf p) ks (checkBook s b p ks (paneChannelRest b pane c)) pane c
+
+  unfoldable pub readMaterialOf : ℕ → ℕ → ReadOne
+  readMaterialOf m c = readMaterialIn s b (viewOf p) ks (checkBook s b p ks (materialChannelRest b m c)) m c
+
+  unfoldable pub readAllOf : List ℕ → List Float → Tables
+  readAllOf marks numbers = readAllIn s b (viewOf p) ks (checkBook s b p ks (tablesRest b marks numbers)) marks numbers
+
+  unfoldable pub resolvePaneOf : ℕ → ResolvedPane
+  resolvePaneOf pane = resolvePaneIn s b (viewOf p) ks (checkBook s b p ks (paneRest b pane)) pane
+
+  unfoldable pub resolveSrtOf : ℕ → ℕ → ResolvedSrt
+  resolveSrtOf m layer = resolveSrtIn s b (viewOf p) ks (checkBook s b p ks (layerRest b m layer)) m layer
+
+  unfoldable pub textureNameOf : ℕ → ℕ → List ℕ
+  textureNameOf m slot = textureNameIn s b (viewOf p) ks (checkBook s b p ks (layerRest b m slot)) m slot
+
+  unfoldable pub cascadeOf : List ℕ → List Float → List Float → Rows
+  cascadeOf visible alpha influence = cascadeIn s b (viewOf p) ks (checkBook s b p ks (cascadeRest b visible alpha influence)) visible alpha influence

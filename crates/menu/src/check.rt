@@ -1,0 +1,78 @@
+// The rows of the table that look at what a call takes, whatever it does: 1 the sheet, 2 the book, 3 and 4 the keys, 5 the player.
+use player::Player;
+ghost use mathlib.Core.Path.{_≡_};
+ghost use Prim.Native.Nat.{_≤_};
+ghost use lib.ListN.{length};
+ghost use Rattle.player.specs.Keys.{keys};
+ghost use Rattle.menu.specs.Calls.{checkPlayer, lengthsOk, checkKeys};
+ghost use Rattle.menu.specs.Readings.{checkBook};
+
+// Rows 1 and 5, and 0 where neither declines.
+pub fn check_player(p: Player, s: &[u8]) -> u8
+    ensures { λ r. ⌜ r ≡ checkPlayer (now (s .entry)) p 0 ⌝ }
+{
+    if !sheet::sheet_ok(s) {
+        return 1;
+    }
+    if !p.ok(s) {
+        return 5;
+    }
+    0
+}
+
+// Row 3: each key array is K long.
+fn lengths_ok(s: &[u8], frames: &[f32], values: &[f32], slopes: &[f32]) -> bool
+    requires { ⌜ 12 ≤ length (now s) ⌝ }
+    ensures { λ r. ⌜ r ≡ lengthsOk (now (s .entry)) (keys (now (frames .entry)) (now (values .entry)) (now (slopes .entry))) ⌝ }
+{
+    let n = sheet::key_count(s);
+    (frames.len() == n) & (values.len() == n) & (slopes.len() == n)
+}
+
+// Rows 1, 3, 4 and 5, and 0 where none declines.
+pub fn check_keys(p: Player, s: &[u8], frames: &[f32], values: &[f32], slopes: &[f32]) -> u8
+    ensures { λ r. ⌜ r ≡ checkKeys (now (s .entry)) p (keys (now (frames .entry)) (now (values .entry)) (now (slopes .entry))) 0 ⌝ }
+{
+    if !sheet::sheet_ok(s) {
+        return 1;
+    }
+    if !lengths_ok(s, frames, values, slopes) {
+        return 3;
+    }
+    if !keys::keys_ok(s, frames, values, slopes) {
+        return 4;
+    }
+    if !p.ok(s) {
+        return 5;
+    }
+    0
+}
+
+// Rows 1 to 5, and 0 where none declines.
+pub fn check_book(
+    p: Player,
+    s: &[u8],
+    b: &[u8],
+    frames: &[f32],
+    values: &[f32],
+    slopes: &[f32],
+) -> u8
+    ensures { λ r. ⌜ r ≡ checkBook (now (s .entry)) (now (b .entry)) p (keys (now (frames .entry)) (now (values .entry)) (now (slopes .entry))) 0 ⌝ }
+{
+    if !sheet::sheet_ok(s) {
+        return 1;
+    }
+    if !book::book_ok(b) {
+        return 2;
+    }
+    if !lengths_ok(s, frames, values, slopes) {
+        return 3;
+    }
+    if !keys::keys_ok(s, frames, values, slopes) {
+        return 4;
+    }
+    if !p.ok(s) {
+        return 5;
+    }
+    0
+}

@@ -1,0 +1,129 @@
+// The edits of one key.
+use crate::check::check_keys;
+use crate::playing::Played;
+use player::NONE;
+use player::Player;
+use player::edit::Request;
+use player::edit::key_in;
+use player::edit::put_key;
+use player::edit::request_refusal;
+use player::edit::spot_of;
+use player::journal::Entry;
+ghost use mathlib.Core.Path.{_≡_};
+ghost use Rattle.player.specs.Keys.{keys};
+ghost use Rattle.player.specs.Edit.{editRefusal};
+ghost use Rattle.menu.specs.Calls.{checkKeys, gave, editOf};
+
+fn edit_refusal(
+    p: Player,
+    s: &[u8],
+    frames: &[f32],
+    values: &[f32],
+    slopes: &[f32],
+    track: u16,
+    key: u16,
+    r: Request,
+) -> u8
+    ensures { λ n. ⌜ n ≡ checkKeys (now (s .entry)) p (keys (now (frames .entry)) (now (values .entry)) (now (slopes .entry))) (editRefusal (now (s .entry)) (p .selection) (keys (now (frames .entry)) (now (values .entry)) (now (slopes .entry))) track key r) ⌝ }
+{
+    let n = check_keys(p, s, frames, values, slopes);
+    if n != 0 {
+        return n;
+    }
+    if p.selection == NONE {
+        return 6;
+    }
+    if !key_in(s, p.selection, track, key) {
+        return 7;
+    }
+    let spot = spot_of(s, track as usize, key);
+    request_refusal(frames, spot, r)
+}
+
+// The edit of either kind: the key is made and put in its place, and its entry goes into the journal.
+fn edit(
+    p: Player,
+    s: &[u8],
+    frames: &mut [f32],
+    values: &mut [f32],
+    slopes: &mut [f32],
+    track: u16,
+    key: u16,
+    r: Request,
+) -> Played
+    ensures { λ g. ⌜ gave g (keys (now (frames .exit)) (now (values .exit)) (now (slopes .exit))) ≡ editOf (now (s .entry)) p (keys (now (frames .entry)) (now (values .entry)) (now (slopes .entry))) track key r ⌝ }
+{
+    let n = edit_refusal(p, s, frames, values, slopes, track, key, r);
+    if n != 0 {
+        return Played {
+            refusal: n,
+            player: p,
+        };
+    }
+    let spot = spot_of(s, track as usize, key);
+    let at = spot.at;
+    let before = curve::key_at(frames, values, slopes, at);
+    let after = player::edit::edited(frames, values, slopes, spot, r);
+    put_key(frames, values, slopes, at, after);
+    let e = Entry {
+        track,
+        key,
+        before,
+        after,
+    };
+    Played {
+        refusal: 0,
+        player: p.after_edit(e),
+    }
+}
+
+// Moves a key of the active animation to a frame and a value. Refusals 1, 3 to 9.
+pub fn key_edit(
+    p: Player,
+    s: &[u8],
+    frames: &mut [f32],
+    values: &mut [f32],
+    slopes: &mut [f32],
+    track: u16,
+    key: u16,
+    frame: f32,
+    value: f32,
+) -> Played
+    ensures { λ g. ⌜ gave g (keys (now (frames .exit)) (now (values .exit)) (now (slopes .exit))) ≡ editOf (now (s .entry)) p (keys (now (frames .entry)) (now (values .entry)) (now (slopes .entry))) track key (Request.Key frame value) ⌝ }
+{
+    edit(
+        p,
+        s,
+        frames,
+        values,
+        slopes,
+        track,
+        key,
+        Request::Key(frame, value),
+    )
+}
+
+// Gives a Hermite key of the active animation a slope. Refusals 1, 3 to 8, 10.
+pub fn slope_edit(
+    p: Player,
+    s: &[u8],
+    frames: &mut [f32],
+    values: &mut [f32],
+    slopes: &mut [f32],
+    track: u16,
+    key: u16,
+    slope: f32,
+) -> Played
+    ensures { λ g. ⌜ gave g (keys (now (frames .exit)) (now (values .exit)) (now (slopes .exit))) ≡ editOf (now (s .entry)) p (keys (now (frames .entry)) (now (values .entry)) (now (slopes .entry))) track key (Request.Slope slope) ⌝ }
+{
+    edit(
+        p,
+        s,
+        frames,
+        values,
+        slopes,
+        track,
+        key,
+        Request::Slope(slope),
+    )
+}

@@ -1,0 +1,31 @@
+// The outward interface: each call checks by rising number, then makes its step. No function here asks anything of its caller.
+mod check;
+mod editing;
+mod loading;
+mod playing;
+mod readings;
+mod shown;
+mod single;
+mod undoing;
+
+pub use editing::key_edit;
+pub use editing::slope_edit;
+pub use loading::load;
+pub use loading::next_name;
+pub use playing::Played;
+pub use playing::Ticked;
+pub use playing::play;
+pub use playing::pose;
+pub use playing::tick;
+pub use readings::ReadOne;
+pub use readings::ResolvedPane;
+pub use readings::ResolvedSrt;
+pub use readings::read_all;
+pub use shown::cascade;
+pub use shown::texture_name;
+pub use single::read_material;
+pub use single::read_pane;
+pub use single::resolve_pane;
+pub use single::resolve_srt;
+pub use undoing::redo;
+pub use undoing::undo;

@@ -1,0 +1,132 @@
+// Play, pose and tick.
+use crate::check::check_player;
+use player::NONE;
+use player::Player;
+use player::Tick;
+use player::playing::tick_frame;
+ghost use mathlib.Core.Path.{_≡_};
+ghost use Rattle.sheet.specs.Checked.{Checked};
+ghost use Rattle.player.specs.View.{viewOf};
+ghost use Rattle.player.specs.Ticked.{Selected};
+ghost use Rattle.menu.specs.Calls.{checkPlayer, playRest, poseRest, tickRest, tickMoves, playOf, poseOf, tickOf};
+
+pub struct Played {
+    pub refusal: u8,
+    pub player: Player,
+}
+
+pub struct Ticked {
+    pub refusal: u8,
+    pub answer: Tick,
+    pub player: Player,
+}
+
+fn play_refusal(p: Player, s: &[u8], animation: u16) -> u8
+    ensures { λ r. ⌜ r ≡ checkPlayer (now (s .entry)) p (playRest (now (s .entry)) animation) ⌝ }
+{
+    let n = check_player(p, s);
+    if n != 0 {
+        return n;
+    }
+    if (animation == NONE) | ((animation as usize) < sheet::animation_count(s)) {
+        return 0;
+    }
+    6
+}
+
+// Plays an animation from its start. Refusals 1, 5, 6.
+pub fn play(p: Player, s: &[u8], animation: u16) -> Played
+    ensures { λ r. ⌜ r ≡ playOf (now (s .entry)) p animation ⌝ }
+{
+    let n = play_refusal(p, s, animation);
+    if n != 0 {
+        return Played {
+            refusal: n,
+            player: p,
+        };
+    }
+    Played {
+        refusal: 0,
+        player: p.play(animation),
+    }
+}
+
+fn pose_refusal(p: Player, s: &[u8], frame: f32) -> u8
+    ensures { λ r. ⌜ r ≡ checkPlayer (now (s .entry)) p (poseRest frame) ⌝ }
+{
+    let n = check_player(p, s);
+    if n != 0 {
+        return n;
+    }
+    if float::is_finite(frame) {
+        return 0;
+    }
+    8
+}
+
+// Holds an animation at a frame; none, and a number that the sheet doesn't have, clear the selection. Refusals 1, 5, 8.
+pub fn pose(p: Player, s: &[u8], animation: u16, frame: f32) -> Played
+    ensures { λ r. ⌜ r ≡ poseOf (now (s .entry)) p animation frame ⌝ }
+{
+    let n = pose_refusal(p, s, frame);
+    if n != 0 {
+        return Played {
+            refusal: n,
+            player: p,
+        };
+    }
+    Played {
+        refusal: 0,
+        player: p.pose(s, animation, frame),
+    }
+}
+
+// Whether the numbers of a playing tick are finite: the sum, and the frame that it would leave.
+fn tick_moves(p: Player, s: &[u8], dt: f32, fps: f32) -> bool
+    requires { ⌜ Selected (now s) p ⌝ }
+    ensures { λ r. ⌜ r ≡ tickMoves (now (s .entry)) (viewOf p) dt fps ⌝ }
+{
+    if !p.ticks() {
+        return true;
+    }
+    let sum = p.tick_sum(dt, fps);
+    float::is_finite(sum) & float::is_finite(tick_frame(s, p.selection as usize, sum))
+}
+
+fn tick_refusal(p: Player, s: &[u8], dt: f32, fps: f32) -> u8
+    ensures { λ r. ⌜ r ≡ checkPlayer (now (s .entry)) p (tickRest (now (s .entry)) (viewOf p) dt fps) ⌝ }
+{
+    let n = check_player(p, s);
+    if n != 0 {
+        return n;
+    }
+    if !(float::is_finite(dt) & float::is_finite(fps)) {
+        return 8;
+    }
+    if tick_moves(p, s, dt, fps) {
+        return 0;
+    }
+    8
+}
+
+// Lets dt seconds pass at fps frames a second. Refusals 1, 5, 8.
+pub fn tick(p: Player, s: &[u8], dt: f32, fps: f32) -> Ticked
+    ensures { λ r. ⌜ r ≡ tickOf (now (s .entry)) p dt fps ⌝ }
+{
+    let n = tick_refusal(p, s, dt, fps);
+    if n != 0 {
+        return Ticked {
+            refusal: n,
+            answer: Tick::Idle,
+            player: p,
+        };
+    }
+    let next = p.tick(s, dt, fps);
+    let answer = next.answer;
+    let player = next.player;
+    Ticked {
+        refusal: 0,
+        answer,
+        player,
+    }
+}

@@ -1,0 +1,101 @@
+// The readings: one channel, all channels, resolving, a resolved texture name, and the cascade.
+use crate::check::check_book;
+use book::Srt;
+use player::NONE;
+use player::Player;
+use reading::Active;
+use reading::Reading;
+use resolve::Transform;
+ghost use mathlib.Core.Path.{_≡_};
+ghost use Prim.Native.Nat.{_≤_};
+ghost use lib.ListN.{length};
+ghost use Rattle.player.specs.Keys.{keys};
+ghost use Rattle.player.specs.View.{viewOf};
+ghost use Rattle.book.specs.Checked.{CheckedBook};
+ghost use Rattle.channel.specs.Channel.{channelCount};
+ghost use Rattle.menu.specs.Readings.{checkBook, activeIn, tablesRest, gaveTables, readAllOf};
+
+// One channel's reading.
+pub struct ReadOne {
+    pub refusal: u8,
+    pub reading: Reading,
+}
+
+// A pane's transform, visibility and alpha, the override or else the book's.
+pub struct ResolvedPane {
+    pub refusal: u8,
+    pub visible: bool,
+    pub alpha: f32,
+    pub transform: Transform,
+}
+
+// A material layer's SRT likewise.
+pub struct ResolvedSrt {
+    pub refusal: u8,
+    pub srt: Srt,
+}
+
+// What is active: nothing without a selection or a preview.
+pub fn active_in(p: Player) -> Active
+    ensures { λ r. ⌜ r ≡ activeIn (viewOf p) ⌝ }
+{
+    if p.preview {
+        if p.selection == NONE {
+            return Active::Nothing;
+        }
+        return Active::At(p.selection as usize, p.frame);
+    }
+    Active::Nothing
+}
+
+// How many channels a book has.
+fn channel_count(b: &[u8]) -> usize
+    requires { ⌜ CheckedBook (now b) ⌝ }
+    ensures { λ r. ⌜ r ≡ channelCount (now (b .entry)) ⌝ }
+{
+    book::pane_count(b) * 28 + book::material_count(b) * 30
+}
+
+fn read_all_refusal(
+    p: Player,
+    s: &[u8],
+    b: &[u8],
+    frames: &[f32],
+    values: &[f32],
+    slopes: &[f32],
+    marks: &[u8],
+    numbers: &[f32],
+) -> u8
+    ensures { λ n. ⌜ n ≡ checkBook (now (s .entry)) (now (b .entry)) p (keys (now (frames .entry)) (now (values .entry)) (now (slopes .entry))) (tablesRest (now (b .entry)) (now (marks .entry)) (now (numbers .entry))) ⌝ }
+{
+    let n = check_book(p, s, b, frames, values, slopes);
+    if n != 0 {
+        return n;
+    }
+    let count = channel_count(b);
+    if (marks.len() == count) & (numbers.len() == count) {
+        return 0;
+    }
+    13
+}
+
+// Every channel of the book: a mark (0 or 1) and a number each, panes first. Refusals 1 to 5, 13.
+pub fn read_all(
+    p: Player,
+    s: &[u8],
+    b: &[u8],
+    frames: &[f32],
+    values: &[f32],
+    slopes: &[f32],
+    marks: &mut [u8],
+    numbers: &mut [f32],
+) -> u8
+    ensures { λ n. ⌜ gaveTables n (now (marks .exit)) (now (numbers .exit)) ≡ readAllOf (now (s .entry)) (now (b .entry)) p (keys (now (frames .entry)) (now (values .entry)) (now (slopes .entry))) (now (marks .entry)) (now (numbers .entry)) ⌝ }
+{
+    let n = read_all_refusal(p, s, b, frames, values, slopes, marks, numbers);
+    if n != 0 {
+        return n;
+    }
+    reading::read_all(s, b, frames, values, slopes, active_in(p), marks, numbers);
+    0
+}

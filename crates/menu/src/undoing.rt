@@ -1,0 +1,97 @@
+// Undo and redo.
+use crate::check::check_keys;
+use crate::playing::Played;
+use player::Player;
+use player::edit::put_key;
+use player::edit::spot_of;
+use player::fits::returns_ok;
+ghost use mathlib.Core.Path.{_≡_};
+ghost use Rattle.player.specs.Keys.{keys};
+ghost use Rattle.player.specs.Undo.{undoRefusal, redoRefusal};
+ghost use Rattle.menu.specs.Calls.{checkKeys, gave, undoOf, redoOf};
+
+fn undo_refusal(p: Player, s: &[u8], frames: &[f32], values: &[f32], slopes: &[f32]) -> u8
+    ensures { λ n. ⌜ n ≡ checkKeys (now (s .entry)) p (keys (now (frames .entry)) (now (values .entry)) (now (slopes .entry))) (undoRefusal (now (s .entry)) p (keys (now (frames .entry)) (now (values .entry)) (now (slopes .entry)))) ⌝ }
+{
+    let n = check_keys(p, s, frames, values, slopes);
+    if n != 0 {
+        return n;
+    }
+    if p.reach == 0 {
+        return 11;
+    }
+    let e = p.undo_entry();
+    if returns_ok(s, frames, values, slopes, e, e.after, e.before) {
+        return 0;
+    }
+    5
+}
+
+// Takes the last standing edit back. Refusals 1, 3 to 5, 11.
+pub fn undo(
+    p: Player,
+    s: &[u8],
+    frames: &mut [f32],
+    values: &mut [f32],
+    slopes: &mut [f32],
+) -> Played
+    ensures { λ g. ⌜ gave g (keys (now (frames .exit)) (now (values .exit)) (now (slopes .exit))) ≡ undoOf (now (s .entry)) p (keys (now (frames .entry)) (now (values .entry)) (now (slopes .entry))) ⌝ }
+{
+    let n = undo_refusal(p, s, frames, values, slopes);
+    if n != 0 {
+        return Played {
+            refusal: n,
+            player: p,
+        };
+    }
+    let e = p.undo_entry();
+    let spot = spot_of(s, e.track as usize, e.key);
+    put_key(frames, values, slopes, spot.at, e.before);
+    Played {
+        refusal: 0,
+        player: p.after_undo(),
+    }
+}
+
+fn redo_refusal(p: Player, s: &[u8], frames: &[f32], values: &[f32], slopes: &[f32]) -> u8
+    ensures { λ n. ⌜ n ≡ checkKeys (now (s .entry)) p (keys (now (frames .entry)) (now (values .entry)) (now (slopes .entry))) (redoRefusal (now (s .entry)) p (keys (now (frames .entry)) (now (values .entry)) (now (slopes .entry)))) ⌝ }
+{
+    let n = check_keys(p, s, frames, values, slopes);
+    if n != 0 {
+        return n;
+    }
+    if p.redo == 0 {
+        return 11;
+    }
+    let e = p.redo_entry();
+    if returns_ok(s, frames, values, slopes, e, e.before, e.after) {
+        return 0;
+    }
+    5
+}
+
+// Makes the edit that was undone last again. Refusals 1, 3 to 5, 11.
+pub fn redo(
+    p: Player,
+    s: &[u8],
+    frames: &mut [f32],
+    values: &mut [f32],
+    slopes: &mut [f32],
+) -> Played
+    ensures { λ g. ⌜ gave g (keys (now (frames .exit)) (now (values .exit)) (now (slopes .exit))) ≡ redoOf (now (s .entry)) p (keys (now (frames .entry)) (now (values .entry)) (now (slopes .entry))) ⌝ }
+{
+    let n = redo_refusal(p, s, frames, values, slopes);
+    if n != 0 {
+        return Played {
+            refusal: n,
+            player: p,
+        };
+    }
+    let e = p.redo_entry();
+    let spot = spot_of(s, e.track as usize, e.key);
+    put_key(frames, values, slopes, spot.at, e.after);
+    Played {
+        refusal: 0,
+        player: p.after_redo(),
+    }
+}

@@ -1,0 +1,52 @@
+use native.Mathlib.Omega.{arith}
+use Rattle.laws.specs.Tests.{no, yes}
+use Rattle.player.specs.Sound.{counts}
+use Rattle.player.proofs.Whole.{selection-no, frame-no, counts-no, rows-left}
+use borrow.Author.Needs.{needs}
+use Rattle.player.proofs.Player.ok.Statement.{statement}
+use Rattle.player.proofs.Player.ok.Tie as tie
+
+selection-ok-requires : tie.Need-selection-ok-requires
+selection-ok-requires c κs = search needs
+
+returns : tie.Need-returns
+returns c = selection-no _ _ (no (c .before .selection-ok .ensures) (c .if1 .taken))
+
+is-finite-requires : tie.Need-is-finite-requires
+is-finite-requires c κs = search needs
+
+returns-2 : tie.Need-returns-2
+returns-2 c = frame-no _ _ (no (c .before .is-finite .ensures) (c .if2 .taken))
+
+counts-ok-requires : tie.Need-counts-ok-requires
+counts-ok-requires c κs = search needs
+
+returns-3 : tie.Need-returns-3
+returns-3 c = counts-no _ _ (no (c .before .counts-ok .ensures) (c .if3 .taken))
+
+sub-first : tie.Need-sub-first
+sub-first c = let k = counts _ _ _ _ _ _ (yes (c .before .before .counts-ok .ensures) (c .before .if3 .left)) in omega arith
+
+add-n : tie.Need-add-n
+add-n c = let k = counts _ _ _ _ _ _ (yes (c .before .before .before .counts-ok .ensures) (c .before .before .if3 .left)) in omega arith
+
+rows-ok-requires : tie.Need-rows-ok-requires
+rows-ok-requires c κs = let k = counts _ _ _ _ _ _ (yes (c .before .before .before .counts-ok .ensures) (c .before .before .if3 .left)) in (c .before .before .before .before .before .before .before .before .before .pre, omega arith)
+
+returns-4 : tie.Need-returns-4
+returns-4 c = rows-left _ _ (yes (c .before .before .before .before .before .before .before .before .selection-ok .ensures) (c .before .before .before .before .before .before .before .if1 .left)) (yes (c .before .before .before .before .before .before .is-finite .ensures) (c .before .before .before .before .before .if2 .left)) (yes (c .before .before .before .before .counts-ok .ensures) (c .before .before .before .if3 .left)) (c .rows-ok .ensures)
+
+pub ok-spec : {M : Type 1} → statement M
+ok-spec =
+    tie.close
+    (tie.spec
+    selection-ok-requires
+    returns
+    is-finite-requires
+    returns-2
+    counts-ok-requires
+    returns-3
+    sub-first
+    add-n
+    rows-ok-requires
+    returns-4)

@@ -1,0 +1,30 @@
+use borrow.Author.Tests.{eq-eqb, ne-eqb, lt-ltb, le-ltb, not-true, not-false}
+use Rattle.player.specs.Edit.{keyIn}
+use Rattle.laws.specs.Tests.{no, yes}
+use Rattle.sheet.specs.Checked.{target-content}
+use Rattle.player.proofs.Laws.{has-track}
+use borrow.Author.Needs.{needs}
+use Rattle.player.proofs.edit.key_in.Statement.{statement}
+use Rattle.player.proofs.edit.key_in.Tie as tie
+
+has-key-requires : tie.Need-has-key-requires
+has-key-requires c κs = search needs
+
+returns : tie.Need-returns
+unfolding keyIn
+returns c = rw (no (c .before .has-key .ensures) (c .if1 .taken))
+
+target-row-requires : tie.Need-target-row-requires
+target-row-requires c κs = (c .before .before .before .pre, has-track _ _ _ (yes (c .before .has-key .ensures) (c .if1 .left)))
+
+content-row-requires : tie.Need-content-row-requires
+content-row-requires c κs = (c .before .before .before .before .pre, rw (c .target-row .ensures) (target-content (c .before .before .before .before .pre) _ (has-track _ _ _ (yes (c .before .before .has-key .ensures) (c .before .if1 .left)))))
+
+returns-2 : tie.Need-returns-2
+unfolding keyIn
+returns-2 c = rw (yes (c .before .before .before .before .has-key .ensures) (c .before .before .before .if1 .left), c .before .content-row .ensures, c .before .before .target-row .ensures)
+
+pub key-in-spec : {M : Type 1} → statement M
+key-in-spec =
+    tie.close
+    (tie.spec has-key-requires returns target-row-requires content-row-requires returns-2)

@@ -1,0 +1,71 @@
+use Prim.Native.Nat.{_-_}
+use mathlib.Core.Path.{sym, _∙_}
+use native.Mathlib.Omega.{arith}
+use Rattle.laws.specs.Below.{Passed, passed-none, passed-more, passed-not, passed-all}
+use Rattle.player.specs.Journal.{rowOf}
+use Rattle.player.specs.Player.{usedOk}
+use Rattle.player.proofs.journal.Journal.rows_ok.Statement.{statement}
+use Rattle.player.proofs.journal.Journal.rows_ok.Tie as tie
+
+abbrev Inv-loop : tie.InvT-loop
+Inv-loop s first n self i₀ i = Passed n (usedOk s self first) i
+
+abbrev μ-loop : tie.MeasureT-loop
+μ-loop s first n self i₀ i = n - i
+
+loop-holds : tie.Need-loop-holds Inv-loop μ-loop
+loop-holds c = passed-none _ _
+
+add-at : tie.Need-add-at Inv-loop μ-loop
+add-at c = omega arith
+
+mul-has-key : tie.Need-mul-has-key Inv-loop μ-loop
+mul-has-key c = omega arith
+
+element-copy-out-has-key : tie.Need-element-copy-out-has-key Inv-loop μ-loop
+element-copy-out-has-key c = omega arith
+
+mul-has-key-2 : tie.Need-mul-has-key-2 Inv-loop μ-loop
+mul-has-key-2 c = omega arith
+
+element-copy-out-has-key-2 : tie.Need-element-copy-out-has-key-2 Inv-loop μ-loop
+element-copy-out-has-key-2 c = omega arith
+
+has-key-requires : tie.Need-has-key-requires Inv-loop μ-loop
+has-key-requires c κs = c .before .before .before .before .before .pre .0
+
+add-i : tie.Need-add-i Inv-loop μ-loop
+add-i c = omega arith
+
+loop-less : tie.Need-loop-less Inv-loop μ-loop
+loop-less c = omega arith
+
+loop-again : tie.Need-loop-again Inv-loop μ-loop
+unfolding usedOk rowOf
+loop-again c = passed-more (c .before .before .before .before .before .loop .inv) (c .before .before .before .before .loop-test .taken) (sym (c .before .has-key .ensures) ∙ c .if1 .taken)
+
+returns : tie.Need-returns Inv-loop μ-loop
+unfolding usedOk rowOf
+returns c = passed-not (c .before .before .before .before .before .loop .inv) (c .before .before .before .before .loop-test .taken) (sym (c .before .has-key .ensures) ∙ c .if1 .left)
+
+returns-2 : tie.Need-returns-2 Inv-loop μ-loop
+returns-2 c = passed-all (c .before .loop .inv) (c .loop-test .left)
+
+pub rows-ok-spec : {M : Type 1} → statement M
+rows-ok-spec =
+    tie.close
+    (tie.spec
+    Inv-loop
+    μ-loop
+    loop-holds
+    add-at
+    mul-has-key
+    element-copy-out-has-key
+    mul-has-key-2
+    element-copy-out-has-key-2
+    has-key-requires
+    add-i
+    loop-less
+    loop-again
+    returns
+    returns-2)

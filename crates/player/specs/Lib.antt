@@ -1,0 +1,12 @@
+pub mod Keys
+pub mod Journal
+pub mod Player
+pub mod View
+pub mod Ticked
+pub mod Edit
+pub mod Spot
+pub mod Undo
+pub mod Counts
+pub mod Sound
+pub mod Put
+pub mod Accepted

@@ -1,0 +1,71 @@
+-- What a player whose state is not broken tells (row 5 of the table): its counts are within their bounds. Assumes nothing.
+use Prim.Native.Nat.{ℕ, _+_, _-_, _≤_, _<_}
+use mathlib.Core.Path.{_≡_, refl}
+use mathlib.Core.Bool.{Bool, true, false, _&&_, _||_}
+use mathlib.Core.List.{List}
+use native.Mathlib.Omega.{arith}
+use borrow.Author.Tests.{leb-true, ltb-true, eqb-true, ne-eqb}
+use lib.Dec.{leb, ltb, eqb}
+use Rattle.laws.specs.Tests.{both, and-1, and-2}
+use Rattle.laws.specs.Below.{allBelow, all-at}
+use Rattle.float.specs.Numbers.{finite}
+use Rattle.sheet.specs.Sizes.{animationCount}
+use Rattle.player.specs.declared.Player.{Player}
+use Rattle.player.specs.Journal.{rowOf}
+use Rattle.player.specs.Player.{none, rows, most, selectionOk, entryOk, usedOk, countsOk, playerOk}
+
+pub record Counts (reach redo accepted undone redone standing : ℕ) : Type 0 where
+  pub room : reach + redo ≤ rows
+  pub below : reach ≤ standing
+  pub accepts : accepted ≤ most
+  pub undoes : undone ≤ most
+  pub redoes : redone ≤ most
+  pub stands : standing ≤ most
+  pub sums : accepted + redone ≡ undone + standing
+
+pub counts : (reach redo accepted undone redone standing : ℕ) → countsOk reach redo accepted undone redone standing ≡ true → Counts reach redo accepted undone redone standing
+unfolding countsOk
+counts reach redo accepted undone redone standing e =
+    let g = both _ (eqb (accepted + redone) (undone + standing)) e in
+    let f = both _ (leb standing most) (g .0) in
+    let d = both _ (leb redone most) (f .0) in
+    let c = both _ (leb undone most) (d .0) in
+    let b = both _ (leb accepted most) (c .0) in
+    let a = both (leb (reach + redo) rows) (leb reach standing) (b .0) in
+    record {
+      room = leb-true _ _ (a .0);
+      below = leb-true _ _ (a .1);
+      accepts = leb-true _ _ (b .1);
+      undoes = leb-true _ _ (c .1);
+      redoes = leb-true _ _ (d .1);
+      stands = leb-true _ _ (f .1);
+      sums = eqb-true _ _ (g .1);
+    }
+
+pub record Sound (s : List ℕ) (p : Player) : Type 0 where
+  pub selection : selectionOk s (p .selection) ≡ true
+  pub frame : finite (p .frame) ≡ true
+  pub counts : Counts (p .reach) (p .redo) (p .accepted) (p .undone) (p .redone) (p .standing)
+  pub used : allBelow (p .reach + p .redo) (usedOk s (p .journal) (p .standing - p .reach)) ≡ true
+
+pub sound : (s : List ℕ) (p : Player) → playerOk s p ≡ true → Sound s p
+unfolding playerOk
+sound s p e =
+    let c = both _ (allBelow (p .reach + p .redo) (usedOk s (p .journal) (p .standing - p .reach))) e in
+    let b = both _ (countsOk (p .reach) (p .redo) (p .accepted) (p .undone) (p .redone) (p .standing)) (c .0) in
+    let a = both (selectionOk s (p .selection)) (finite (p .frame)) (b .0) in
+    record { selection = a .0; frame = a .1; counts = counts _ _ _ _ _ _ (b .1); used = c .1 }
+
+module _ {s : List ℕ} {p : Player} (w : Sound s p) where
+  -- what is selected is one of the animations
+  pub selected-below : (p .selection ≡ none → ⊥) → p .selection < animationCount s
+  unfolding selectionOk
+  selected-below d = ltb-true (p .selection) (animationCount s) (rw (ne-eqb (p .selection) none d) at (w .selection))
+
+  -- the entry of a used row names a key of the sheet
+  pub used-ok : (k : ℕ) → p .standing ≤ k + p .reach → k < p .standing + p .redo → entryOk s (rowOf (p .journal) k) ≡ true
+  unfolding usedOk
+  used-ok k l m =
+      let i = k + p .reach - p .standing in
+      let q : p .standing - p .reach + i ≡ k = omega (arith, w .counts .below) in
+      rw q at (all-at (p .reach + p .redo) (usedOk s (p .journal) (p .standing - p .reach)) i (w .used) (omega (arith, w .counts .below)))

@@ -1,0 +1,5 @@
+-- Document 01, "Channels": resolving and the cascade.
+pub mod Resolve
+pub mod Own
+pub mod Cascade
+pub mod Tables
