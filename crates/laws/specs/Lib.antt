@@ -9,3 +9,4 @@ pub mod Table
 pub mod Grown
 pub mod Swept
 pub mod Refusals
+pub mod Only

@@ -27,3 +27,8 @@ passed false n next t e = absurd (subst (λ (k : ℕ). T (ltb 0 k)) e t)
 
 -- what closes a `return` of a function of tests, each with its refusal
 pub ruleset refusals = (stop, skip, is-zero, is-not-zero, le-ltb, lt-ltb, no, yes, refl)
+
+-- a test that holds is passed over
+pub pass : (b : Bool) (n next : ℕ) → b ≡ true → unless b n next ≡ next
+unfolding unless
+pass b n next e = rw e

@@ -1,0 +1,36 @@
+// Which channel of a book a target addresses (document 01, "Channels").
+mod address;
+mod place;
+mod reach;
+
+pub use address::channel_count;
+pub use address::family_of;
+pub use address::of_material;
+pub use address::of_pane;
+pub use address::row_channel;
+pub use place::Place;
+pub use place::hits;
+pub use place::place_of;
+pub use reach::Held;
+pub use reach::held_for;
+pub use reach::none_held;
+
+// A target's family, by its four-letter code.
+pub enum Family {
+    PaneSrt,
+    Visibility,
+    VertexColor,
+    TextureSrt,
+    TexturePattern,
+    IndirectSrt,
+    AlphaCompare,
+    MaterialColor,
+    Other,
+}
+
+// The row of the book that a content reaches.
+pub enum Reached {
+    Pane(usize),
+    Material(usize),
+    Nothing,
+}

@@ -1,0 +1,85 @@
+// The row of the book that a content reaches.
+use crate::Reached;
+use laws::Found;
+ghost use mathlib.Core.Path.{_≡_};
+ghost use Prim.Native.Nat.{ℕ, _<_};
+ghost use Rattle.sheet.specs.Sizes.{contentCount};
+ghost use Rattle.sheet.specs.Checked.{Checked};
+ghost use Rattle.book.specs.Checked.{CheckedBook};
+ghost use Rattle.channel.specs.Channel.{asPane, asMaterial, contentReach, activeReach};
+ghost use Rattle.channel.specs.Held.{noneHeld, heldFor, Holds};
+
+// A content, and the row that it reaches while an animation is active: contents of targets never fall, so each name is searched once.
+pub struct Held {
+    pub content: usize,
+    pub reached: Reached,
+}
+
+fn as_pane(f: Found) -> Reached
+    ensures { λ r. ⌜ r ≡ asPane f ⌝ }
+{
+    match f {
+        Found::At(i) => Reached::Pane(i),
+        Found::Nothing => Reached::Nothing,
+    }
+}
+
+fn as_material(f: Found) -> Reached
+    ensures { λ r. ⌜ r ≡ asMaterial f ⌝ }
+{
+    match f {
+        Found::At(i) => Reached::Material(i),
+        Found::Nothing => Reached::Nothing,
+    }
+}
+
+fn content_reach(s: &[u8], b: &[u8], c: usize) -> Reached
+    requires { ⌜ Checked (now s) × (CheckedBook (now b) × (c < contentCount (now s))) ⌝ }
+    ensures { λ r. ⌜ r ≡ contentReach (now (s .entry)) (now (b .entry)) c ⌝ }
+{
+    let row = sheet::content_row(s, c);
+    let at = sheet::contents_at(s) + c * 28 + 4;
+    if (row.kind == 0) | (row.kind == 3) {
+        return as_pane(field::find_name(b, 4, 72, book::pane_count(b), s, at));
+    }
+    if row.kind == 1 {
+        let base = book::materials_at(b);
+        return as_material(field::find_name(b, base, 156, book::material_count(b), s, at));
+    }
+    Reached::Nothing
+}
+
+// The same where the content is one of animation a's.
+fn active_reach(s: &[u8], b: &[u8], a: usize, c: usize) -> Reached
+    requires { ⌜ Checked (now s) × (CheckedBook (now b) × (c < contentCount (now s))) ⌝ }
+    ensures { λ r. ⌜ r ≡ activeReach (now (s .entry)) (now (b .entry)) a c ⌝ }
+{
+    if sheet::content_row(s, c).animation == a {
+        return content_reach(s, b, c);
+    }
+    Reached::Nothing
+}
+
+// No content is held: 65,536 is the number of none.
+pub fn none_held() -> Held
+    ensures { λ r. ⌜ r ≡ noneHeld ⌝ }
+{
+    Held {
+        content: 65536,
+        reached: Reached::Nothing,
+    }
+}
+
+// What is held, where it is content c's, and else what c reaches.
+pub fn held_for(s: &[u8], b: &[u8], a: usize, held: Held, c: usize) -> Held
+    requires { ⌜ Checked (now s) × (CheckedBook (now b) × ((c < contentCount (now s)) × Holds (now s) (now b) a held)) ⌝ }
+    ensures { λ r. ⌜ r ≡ heldFor (now (s .entry)) (now (b .entry)) a c ⌝ }
+{
+    if held.content == c {
+        return held;
+    }
+    Held {
+        content: c,
+        reached: active_reach(s, b, a, c),
+    }
+}

@@ -1,0 +1,87 @@
+-- Demand 3: after every list of at most 2^40 calls the player is the plain machine, and has answered as it. Assumes nothing.
+use mathlib.Core.Path.{_≡_, refl, ap, _∙_}
+use mathlib.Core.Bool.{true, false}
+use mathlib.Core.List.{List, []}
+use Prim.Native.Nat.{ℕ, suc, _+_, _≤_, _<_, _^_}
+use native.Mathlib.Omega.{arith}
+use lib.ListN.{length}
+use lib.Ieee.{ofBits}
+use Rattle.sheet.specs.Sheet.{sheetOk}
+use Rattle.player.specs.declared.Player.{Player}
+use Rattle.player.specs.declared.journal.Journal.{Journal}
+use Rattle.player.specs.Keys.{Keys}
+use Rattle.player.specs.Journal.{emptyJournal, whole-empty}
+use Rattle.player.specs.Player.{freshPlayer, selectionOk}
+use Rattle.player.specs.View.{View, viewOf}
+use Rattle.machine.specs.Runs.{last, answers}
+use Rattle.machine.specs.Calls.{Call, State, stepP}
+use Rattle.machine.specs.Plain.{Plain, replay, keysOf, stepM, freshM}
+use Rattle.machine.proofs.Simulates.{runs}
+use Rattle.machine.proofs.Invariant.{Sane, image, Good}
+use Rattle.machine.proofs.Steps.{stateOf, Allows, step-kept}
+
+-- the player with its keys is the machine
+pub record Agree (s : List ℕ) (t : State) (m : Plain) : Type 0 where
+  pub keys : t .keys ≡ replay s (m .loaded) (m .standing)
+  pub view : viewOf (t .player) ≡ m .view
+  pub reach : t .player .reach ≡ m .reach
+  pub redo : t .player .redo ≡ length (m .redo)
+  pub standing : t .player .standing ≡ length (m .standing)
+  pub accepted : t .player .accepted ≡ m .accepted
+  pub undone : t .player .undone ≡ m .undone
+  pub redone : t .player .redone ≡ m .redone
+  pub sums : t .player .accepted + t .player .redone ≡ t .player .undone + t .player .standing
+
+-- after n calls
+record Related (s : List ℕ) (n : ℕ) (t : State) (m : Plain) : Type 0 where
+  journal : Journal
+  is : t ≡ stateOf s m journal
+  good : Good s n m journal
+
+module _ (s : List ℕ) (ok : sheetOk s ≡ true) (fair : Allows s) where
+  keeps : (n : ℕ) (c : Call) (t : State) (m : Plain) → n < 2 ^ 40 → Related s n t m → Related s (suc n) (stepP s c t .0) (stepM s c m .0) × (stepP s c t .1 ≡ stepM s c m .1)
+  keeps n c t m h r =
+      let k = step-kept s n m (r .journal) ok fair h (r .good) c in
+      let e : stepP s c t ≡ (stateOf s (stepM s c m .0) (k .journal), stepM s c m .1) = ap (stepP s c) (r .is) ∙ k .same in
+      (record { journal = k .journal; is = ap (λ x. x .0) e; good = k .good }, ap (λ x. x .1) e)
+
+  -- the fresh player
+  start : (ks : Keys) → Sane s ks → Related s 0 (record { player = freshPlayer; keys = ks }) (freshM ks)
+  unfolding freshPlayer replay selectionOk ofBits
+  start ks w =
+      record {
+        journal = emptyJournal;
+        is = refl;
+        good =
+            record {
+              whole = whole-empty;
+              sane = w;
+              seen = record { selection = refl; frame = refl };
+              back = tt;
+              fore = tt;
+              room = omega arith;
+              below = omega arith;
+              sums = omega arith;
+              few = omega arith;
+            };
+      }
+
+  pub the-player-is-the-machine : (ks : Keys) → Sane s ks → (cs : List Call) → length cs ≤ 2 ^ 40
+      → Agree s (last (stepP s) cs (record { player = freshPlayer; keys = ks })) (last (stepM s) cs (freshM ks))
+      × (answers (stepP s) cs (record { player = freshPlayer; keys = ks }) ≡ answers (stepM s) cs (freshM ks))
+  the-player-is-the-machine ks w cs h =
+      let r = runs (stepP s) (stepM s) (Related s) (2 ^ 40) keeps cs 0 (record { player = freshPlayer; keys = ks }) (freshM ks) (omega arith) (start ks w) in
+      let i = r .1 .is in (
+        record {
+          keys = ap (λ t. t .keys) i;
+          view = ap (λ t. viewOf (t .player)) i;
+          reach = ap (λ t. t .player .reach) i;
+          redo = ap (λ t. t .player .redo) i;
+          standing = ap (λ t. t .player .standing) i;
+          accepted = ap (λ t. t .player .accepted) i;
+          undone = ap (λ t. t .player .undone) i;
+          redone = ap (λ t. t .player .redone) i;
+          sums = rw i (r .1 .good .sums);
+        },
+        r .2,
+      )

@@ -1,0 +1,54 @@
+-- The keys of a sheet as three lists of one length (document 01, "Sheet and book": three lent f32 arrays), one key of them, and one key put in
+-- another's place. Assumes nothing.
+use Prim.Native.Nat.{ℕ, _<_}
+use mathlib.Core.Path.{_≡_, refl}
+use mathlib.Core.List.{List}
+use lib.ListN.{getD, set, length, length-set}
+use lib.Seq.{getD-set-same, getD-set-other, set-set, set-getD}
+use lib.Ieee.{Float, nan}
+use Rattle.curve.specs.declared.Key.{Key}
+use Rattle.curve.specs.Keys as curve
+
+pub record Keys : Type 0 where
+  pub frames : List Float
+  pub values : List Float
+  pub slopes : List Float
+
+-- the key at i
+unfoldable pub keyAt : Keys → ℕ → Key
+keyAt ks i = curve.keyAt (ks .frames) (ks .values) (ks .slopes) i
+
+-- the keys with k at i
+unfoldable pub putKey : Keys → ℕ → Key → Keys
+putKey ks i k = record { frames = set (ks .frames) i (k .frame); values = set (ks .values) i (k .value); slopes = set (ks .slopes) i (k .slope) }
+
+-- i is a place of each of the three lists
+pub record Within (ks : Keys) (i : ℕ) : Type 0 where
+  pub frames : i < length (ks .frames)
+  pub values : i < length (ks .values)
+  pub slopes : i < length (ks .slopes)
+
+-- ---- laws
+pub get-put : (ks : Keys) (i : ℕ) (k : Key) → Within ks i → keyAt (putKey ks i k) i ≡ k
+unfolding keyAt putKey
+get-put ks i k w =
+    rw (getD-set-same (ks .frames) i (k .frame) nan (w .frames), getD-set-same (ks .values) i (k .value) nan (w .values), getD-set-same (ks .slopes) i (k .slope) nan (w .slopes))
+
+pub get-other : (ks : Keys) (i j : ℕ) (k : Key) → (j ≡ i → ⊥) → keyAt (putKey ks i k) j ≡ keyAt ks j
+unfolding keyAt putKey
+get-other ks i j k d =
+    rw (getD-set-other (ks .frames) i j (k .frame) nan d, getD-set-other (ks .values) i j (k .value) nan d, getD-set-other (ks .slopes) i j (k .slope) nan d)
+
+pub put-put : (ks : Keys) (i : ℕ) (j k : Key) → putKey (putKey ks i j) i k ≡ putKey ks i k
+unfolding putKey
+put-put ks i j k = rw (set-set (ks .frames) i (j .frame) (k .frame), set-set (ks .values) i (j .value) (k .value), set-set (ks .slopes) i (j .slope) (k .slope))
+
+pub put-get : (ks : Keys) (i : ℕ) → putKey ks i (keyAt ks i) ≡ ks
+unfolding keyAt putKey
+put-get ks i = rw (set-getD (ks .frames) i nan, set-getD (ks .values) i nan, set-getD (ks .slopes) i nan)
+
+-- a key put in another's place leaves the lengths
+pub put-length : (ks : Keys) (i : ℕ) (k : Key) →
+    (length (putKey ks i k .frames) ≡ length (ks .frames)) × (length (putKey ks i k .values) ≡ length (ks .values)) × (length (putKey ks i k .slopes) ≡ length (ks .slopes))
+unfolding putKey
+put-length ks i k = (length-set (ks .frames) i (k .frame), length-set (ks .values) i (k .value), length-set (ks .slopes) i (k .slope))

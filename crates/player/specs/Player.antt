@@ -1,0 +1,73 @@
+-- The player's state (document 01, "Playing and editing"), and when it is broken (row 5 of the table). Assumes nothing.
+use Prim.Native.Nat.{ℕ, _+_, _-_, _^_, _≤_, _<_}
+use mathlib.Core.Bool.{Bool, true, false, _&&_, _||_}
+use mathlib.Core.List.{List}
+use lib.Dec.{eqb, leb, ltb}
+use lib.Ieee.{Float}
+use Rattle.float.specs.Numbers.{zero', finite}
+use Rattle.laws.specs.Below.{allBelow}
+use Rattle.sheet.specs.Sizes.{animationCount, targetCount}
+use Rattle.sheet.specs.Rows.{targetRow}
+use Rattle.player.specs.declared.Player.{Player}
+use Rattle.player.specs.declared.journal.Entry.{Entry}
+use Rattle.player.specs.declared.journal.Journal.{Journal}
+use Rattle.player.specs.Journal.{emptyJournal, rowOf}
+
+-- the number that selects nothing
+abbrev pub none : ℕ
+none = 65535
+
+-- how many edits a journal holds, and how high a count goes
+abbrev pub rows : ℕ
+rows = 128
+
+abbrev pub most : ℕ
+most = 2 ^ 40
+
+-- A fresh player has nothing selected, frame +0, not playing, preview off, all counts 0.
+unfoldable pub freshPlayer : Player
+freshPlayer =
+    record {
+      selection = none;
+      playing = false;
+      preview = false;
+      frame = zero';
+      reach = 0;
+      redo = 0;
+      accepted = 0;
+      undone = 0;
+      redone = 0;
+      standing = 0;
+      journal = emptyJournal;
+    }
+
+-- a selection: nothing, or one of the animations
+unfoldable pub selectionOk : List ℕ → ℕ → Bool
+selectionOk s selection = eqb selection none || ltb selection (animationCount s)
+
+-- an entry names a track and one of its keys
+unfoldable pub entryOk : List ℕ → Entry → Bool
+entryOk s e = ltb (e .track) (targetCount s) && ltb (e .key) (targetRow s (e .track) .count)
+
+-- the used row number i: the rows of the last `reach` standing edits and of the redo list, which come right after them
+unfoldable pub usedOk : List ℕ → Journal → ℕ → ℕ → Bool
+usedOk s j first i = entryOk s (rowOf j (first + i))
+
+-- the counts: reach + redo at most 128, reach at most standing, each count and standing at most 2^40, accepted + redone = undone + standing
+unfoldable pub countsOk : ℕ → ℕ → ℕ → ℕ → ℕ → ℕ → Bool
+countsOk reach redo accepted undone redone standing =
+    leb (reach + redo) rows
+    && leb reach standing
+    && leb accepted most
+    && leb undone most
+    && leb redone most
+    && leb standing most
+    && eqb (accepted + redone) (undone + standing)
+
+-- row 5, as far as it looks at the player alone
+unfoldable pub playerOk : List ℕ → Player → Bool
+playerOk s p =
+    selectionOk s (p .selection)
+    && finite (p .frame)
+    && countsOk (p .reach) (p .redo) (p .accepted) (p .undone) (p .redone) (p .standing)
+    && allBelow (p .reach + p .redo) (usedOk s (p .journal) (p .standing - p .reach))

@@ -1,0 +1,98 @@
+-- What play, pose and tick move (document 01, "Playing and editing"): frame, playing, preview and selection, and nothing else. Assumes nothing.
+use Prim.Native.Nat.{ℕ}
+use mathlib.Core.Path.{_≡_, refl}
+use mathlib.Core.Bool.{Bool, true, false, not, _&&_, cond}
+use mathlib.Core.List.{List}
+use lib.Dec.{eqb, ltb}
+use lib.IntN.{pos}
+use lib.Ieee.{Float, binary32, le, lt, rem, ofInt}
+use Rattle.float.specs.Numbers.{zero', _⊕_, _⊗_}
+use Rattle.sheet.specs.Sizes.{animationCount}
+use Rattle.sheet.specs.Rows.{animationRow}
+use Rattle.player.specs.declared.Player.{Player}
+use Rattle.player.specs.declared.Tick.{Tick}
+use Rattle.player.specs.declared.Tick.the-variants.{Idle, Running, Ended, Next}
+use Rattle.player.specs.Player.{none}
+
+pub record View : Type 0 where
+  pub selection : ℕ
+  pub playing : Bool
+  pub preview : Bool
+  pub frame : Float
+
+abbrev pub viewOf : Player → View
+viewOf p = record { selection = p .selection; playing = p .playing; preview = p .preview; frame = p .frame }
+
+-- the player with another view
+abbrev pub withView : Player → View → Player
+withView p v =
+    record {
+      selection = v .selection;
+      playing = v .playing;
+      preview = v .preview;
+      frame = v .frame;
+      reach = p .reach;
+      redo = p .redo;
+      accepted = p .accepted;
+      undone = p .undone;
+      redone = p .redone;
+      standing = p .standing;
+      journal = p .journal;
+    }
+
+abbrev pub pickView : Bool → View → View → View
+pickView true v w = v
+pickView false v w = w
+
+-- nothing is selected
+abbrev pub noView : View
+noView = record { selection = none; playing = false; preview = false; frame = zero' }
+
+-- Play: the animation from frame +0, playing, preview on; play of none does nothing.
+unfoldable pub playView : ℕ → View → View
+playView a v = pickView (eqb a none) v (record { selection = a; playing = true; preview = true; frame = zero' })
+
+-- Pose: the animation at the frame, not playing, preview on; pose of none, or from A up, clears the selection and sets frame to +0.
+unfoldable pub poseView : List ℕ → ℕ → Float → View
+poseView s a x = pickView (ltb a (animationCount s)) (record { selection = a; playing = false; preview = true; frame = x }) noView
+
+-- ---- tick
+
+-- a playing tick: something is selected, and plays
+unfoldable pub ticks : View → Bool
+ticks v = not (eqb (v .selection) none) && v .playing
+
+-- frame + dt · fps
+unfoldable pub tickSum : View → Float → Float → Float
+tickSum v dt fps = v .frame ⊕ dt ⊗ fps
+
+-- the active animation's frame count
+unfoldable pub countOf : List ℕ → View → Float
+countOf s v = ofInt binary32 (pos (animationRow s (v .selection) .frames))
+
+-- at the frame count or past it, a looping animation of at least a frame goes on from the remainder, and any other ends at its frame count
+unfoldable pub wraps : List ℕ → View → Bool
+wraps s v = animationRow s (v .selection) .looping && lt zero' (countOf s v)
+
+unfoldable pub tickFrame : List ℕ → View → Float → Float
+tickFrame s v sum = cond (le (countOf s v) sum) (cond (wraps s v) (rem binary32 sum (countOf s v)) (countOf s v)) sum
+
+unfoldable pub tickEnds : List ℕ → View → Float → Bool
+tickEnds s v sum = le (countOf s v) sum && not (wraps s v)
+
+abbrev pub pickTick : Bool → Tick → Tick → Tick
+pickTick true a b = a
+pickTick false a b = b
+
+-- where a playing tick leaves the view, and what a tick answers
+unfoldable pub tickView : List ℕ → Float → Float → View → View
+tickView s dt fps v =
+    pickView (ticks v)
+    (record { selection = v .selection; playing = not (tickEnds s v (tickSum v dt fps)); preview = v .preview; frame = tickFrame s v (tickSum v dt fps) })
+    v
+
+unfoldable pub tickAnswer : List ℕ → Float → Float → View → Tick
+tickAnswer s dt fps v =
+    pickTick (ticks v)
+    (pickTick (tickEnds s v (tickSum v dt fps)) (pickTick (animationRow s (v .selection) .next) Next Ended) Running)
+    Idle

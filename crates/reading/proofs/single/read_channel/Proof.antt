@@ -1,0 +1,76 @@
+use mathlib.Core.Path.{sym, _∙_}
+use Rattle.reading.specs.Reading.{reading, targetReading}
+use Rattle.reading.specs.Overrides.{last-target-within}
+use Rattle.reading.proofs.Pass.{row-ready}
+use borrow.Author.Needs.{needs}
+use Rattle.reading.proofs.single.read_channel.Statement.{statement}
+use Rattle.reading.proofs.single.read_channel.Tie as tie
+use Rattle.reading.proofs.single.read_channel.Reads as reads
+use Rattle.reading.proofs.single.read_channel.Lts as lts
+use Rattle.reading.proofs.single.last_target.Reads as last-target-reads
+use Rattle.reading.proofs.value.row_reading.Reads as row-reading-reads
+use Rattle.sheet.proofs.target_row.Reads as target-row-reads
+use Rattle.sheet.proofs.texture_count.Reads as texture-count-reads
+
+-- src/single.rt:45:20
+enum-known-active : tie.Need-enum-known-active
+enum-known-active c = search needs
+
+-- src/single.rt:46:9
+enum-told : tie.Need-enum-told
+enum-told c = search needs
+
+-- src/single.rt:46:9
+returns : tie.Need-returns
+unfolding reading
+returns c = rw (c .enum-told .given .1)
+
+-- src/single.rt:48:24
+last-target-requires : tie.Need-last-target-requires
+last-target-requires c κs = search needs
+
+-- src/single.rt:48:19
+enum-known-t : tie.Need-enum-known-t
+enum-known-t c = search needs
+
+-- src/single.rt:49:9
+enum-told-2 : tie.Need-enum-told-2
+enum-told-2 c = search needs
+
+-- src/single.rt:49:9
+returns-2 : tie.Need-returns-2
+unfolding reading
+returns-2 c = rw (c .before .before .before .before .active .given .1, ← c .before .before .last-target .ensures, c .enum-told2 .given .1)
+
+-- src/single.rt:51:9
+target-row-requires : tie.Need-target-row-requires
+target-row-requires c κs = (c .before .before .before .before .before .before .before .before .before .before .before .before .pre .0 .sheet, (last-target-within _ _ _ _ _ (sym (c .before .before .before .last-target .ensures) ∙ c .before .t .given .1)))
+
+-- src/single.rt:52:9
+texture-count-requires : tie.Need-texture-count-requires
+texture-count-requires c κs = search needs
+
+-- src/single.rt:53:5
+row-reading-requires : tie.Need-row-reading-requires
+row-reading-requires c κs = row-ready _ _ (c .before .before .before .before .before .before .before .before .before .before .before .before .before .before .pre .0) (last-target-within _ _ _ _ _ (sym (c .before .before .before .before .before .last-target .ensures) ∙ c .before .before .before .t .given .1)) (c .before .target-row .ensures)
+
+-- src/single.rt:33:1
+returns-3 : tie.Need-returns-3
+unfolding reading targetReading
+returns-3 c = rw (c .before .before .before .before .before .before .before .before .active .given .1, ← c .before .before .before .before .before .before .last-target .ensures, c .before .before .before .before .t .given .1) (rw (c .before .texture-count .ensures, c .before .before .target-row .ensures) at (c .row-reading .ensures))
+
+pub read-channel-spec : {M : Type 1} → statement M
+read-channel-spec =
+    tie.close
+    (tie.spec
+    enum-known-active
+    enum-told
+    returns
+    last-target-requires
+    enum-known-t
+    enum-told-2
+    returns-2
+    target-row-requires
+    texture-count-requires
+    row-reading-requires
+    returns-3)

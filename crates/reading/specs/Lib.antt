@@ -1,0 +1,4 @@
+-- Document 01, "Channels": what a channel reads.
+pub mod Reading
+pub mod Overrides
+pub mod Ready

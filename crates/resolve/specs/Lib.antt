@@ -1,0 +1,3 @@
+-- Document 01, "Channels": resolving and the cascade.
+pub mod Resolve
+pub mod Cascade
