@@ -1,2 +1,3 @@
 -- What the exports for comparison answer.
 pub mod Checked
+pub mod Readable

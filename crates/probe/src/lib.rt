@@ -1,6 +1,7 @@
 // Inner functions, exported so that a program can compare them with the Rust on millions of inputs. No part of the player.
 // An export requires nothing: it tests what the function inside requires, and answers 0 where a test fails.
 mod formats;
+mod readings;
 mod shapes;
 
 ghost use mathlib.Core.Path.{_≡_};

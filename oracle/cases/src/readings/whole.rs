@@ -53,7 +53,7 @@ pub fn state(case: &Case) -> AnimationState {
     AnimationState::evaluate(&info, frame, &form::labels(&case.book))
 }
 
-fn reading(case: &Case, state: &AnimationState) -> Reading {
+pub fn reading(case: &Case, state: &AnimationState) -> Reading {
     let mut reading = Reading::default();
     for pane in panes(case, state) {
         pane_channels(&pane).iter().for_each(|&c| reading.push(c));

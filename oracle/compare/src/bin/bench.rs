@@ -4,8 +4,10 @@
 use cases::curves::{Keys, answer};
 use cases::format::sheet::Sheet;
 use cases::random::Random;
+use cases::readings::Case;
 use cases::readings::published_form as form;
 use cases::sheets::{books, good};
+use compare::probe::readings::Tables;
 use compare::probe::{curves, formats};
 use published::anim_state::AnimationState;
 use std::hint::black_box;
@@ -29,6 +31,15 @@ fn main() {
 
     report("Rust: evaluate, 256 targets", || {
         black_box(AnimationState::evaluate(black_box(&info), 7.5, &labels));
+    });
+    let case = Case {
+        sheet: sheet.clone(),
+        book: book.clone(),
+        active: Some((0, 7.5)),
+    };
+    let mut tables = Tables::new(64 * 28 + 32 * 30);
+    report("proved: whole reading, with rows 1, 2, 4 and 13", || {
+        assert!(tables.fill(black_box(&case), &sheet_bytes, &book_bytes));
     });
     report("Rust: 256 curves, as number and as u16 (both ways)", || {
         for curve in &published {

@@ -3,4 +3,5 @@
 
 pub mod curves;
 pub mod formats;
+pub mod readings;
 pub mod shapes;

@@ -1,0 +1,34 @@
+use Rattle.channel.specs.Channel.{channelCount}
+use borrow.Author.Needs.{needs}
+use Rattle.probe.proofs.readings.channel_count.Statement.{statement}
+use Rattle.probe.proofs.readings.channel_count.Tie as tie
+
+pane-count-requires : tie.Need-pane-count-requires
+pane-count-requires c κs = search needs
+
+mul-result : tie.Need-mul-result
+mul-result c = search needs
+
+material-count-requires : tie.Need-material-count-requires
+material-count-requires c κs = search needs
+
+mul-result-2 : tie.Need-mul-result-2
+mul-result-2 c = search needs
+
+add-result : tie.Need-add-result
+add-result c = search needs
+
+returns : tie.Need-returns
+unfolding channelCount
+returns c = cc
+
+pub channel-count-spec : {M : Type 1} → statement M
+channel-count-spec =
+    tie.close
+    (tie.spec
+    pane-count-requires
+    mul-result
+    material-count-requires
+    mul-result-2
+    add-result
+    returns)
