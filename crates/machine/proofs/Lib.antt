@@ -3,4 +3,5 @@ pub mod Invariant
 pub mod Checks
 pub mod Allows
 pub mod Steps
+pub mod Loaded
 pub mod Theorem

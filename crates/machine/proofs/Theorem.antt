@@ -15,6 +15,8 @@ use Rattle.player.specs.View.{viewOf}
 use Rattle.machine.specs.Runs.{last, answers, Each}
 use Rattle.machine.specs.Calls.{Call, HeldCall, State, stepP}
 use Rattle.machine.specs.Plain.{Plain, replay, stepM, freshM}
+use Rattle.menu.specs.Calls.{loadedOf}
+use Rattle.machine.proofs.Loaded.{loaded-sheet, loaded-sane}
 use Rattle.machine.proofs.Simulates.{runs}
 use Rattle.machine.proofs.Invariant.{Sane, Good}
 use Rattle.machine.proofs.Steps.{stateOf, step-kept}
@@ -84,3 +86,13 @@ module _ (s : List ℕ) (ok : sheetOk s ≡ true) where
         },
         r .2,
       )
+
+-- Demand 3, whole. Load any sheet into any arrays; where that is not declined, make any list of at most 2^40 calls, refused ones, damaged books,
+-- NaNs and outputs of every length included: the keys are the loaded ones with the standing edits made in order, counts, selection, playing,
+-- preview and frame are the plain machine's, standing is the standing list's length, accepted + redone = undone + standing, and every answer with
+-- every output is the machine's.
+pub standing-edits-decide : (s : List ℕ) (arrays : Keys) → loadedOf s arrays .refusal ≡ 0 → (cs : List Call) → Each HeldCall cs → length cs ≤ 2 ^ 40
+    → Agree s (last (stepP s) cs (record { player = loadedOf s arrays .player; keys = loadedOf s arrays .keys })) (last (stepM s) cs (freshM (loadedOf s arrays .keys)))
+    × (answers (stepP s) cs (record { player = loadedOf s arrays .player; keys = loadedOf s arrays .keys }) ≡ answers (stepM s) cs (freshM (loadedOf s arrays .keys)))
+unfolding loadedOf
+standing-edits-decide s arrays e cs held h = the-player-is-the-machine s (loaded-sheet s arrays e) (loadedOf s arrays .keys) (loaded-sane s arrays e) cs held h
