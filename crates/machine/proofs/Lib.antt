@@ -5,3 +5,4 @@ pub mod Allows
 pub mod Steps
 pub mod Loaded
 pub mod Theorem
+pub mod Declined

@@ -286,7 +286,7 @@ module _ (s : List ℕ) (n : ℕ) (j : Journal) (ok : sheetOk s ≡ true) (few :
 
 -- ---- readings
 -- a call's answer depends on the player by its view, and on all else by its refusal
-tell-is : (s b : List ℕ) (p : Player) (ks : Keys) (q : Ask) → tellOf s b p ks q ≡ tellIn s b (viewOf p) ks (checkBook s b p ks (askRest b q)) q
+pub tell-is : (s b : List ℕ) (p : Player) (ks : Keys) (q : Ask) → tellOf s b p ks q ≡ tellIn s b (viewOf p) ks (checkBook s b p ks (askRest b q)) q
 unfolding tellOf tellIn askRest readPaneOf readMaterialOf readAllOf resolvePaneOf resolveSrtOf textureNameOf cascadeOf
 tell-is s b p ks (paneChannel i c) = refl
 tell-is s b p ks (materialChannel m c) = refl
