@@ -7,7 +7,7 @@ ghost use Rattle.sheet.specs.Sizes.{contentCount};
 ghost use Rattle.sheet.specs.Checked.{Checked};
 ghost use Rattle.book.specs.Checked.{CheckedBook};
 ghost use Rattle.channel.specs.Channel.{asPane, asMaterial, contentReach, activeReach};
-ghost use Rattle.channel.specs.Held.{noneHeld, heldFor, Holds};
+ghost use Rattle.channel.specs.Held.{noneHeld, heldFor};
 
 // A content, and the row that it reaches while an animation is active: contents of targets never fall, so each name is searched once.
 pub struct Held {
@@ -70,14 +70,11 @@ pub fn none_held() -> Held
     }
 }
 
-// What is held, where it is content c's, and else what c reaches.
-pub fn held_for(s: &[u8], b: &[u8], a: usize, held: Held, c: usize) -> Held
-    requires { ⌜ Checked (now s) × (CheckedBook (now b) × ((c < contentCount (now s)) × Holds (now s) (now b) a held)) ⌝ }
+// Content c, with what it reaches.
+pub fn held_for(s: &[u8], b: &[u8], a: usize, c: usize) -> Held
+    requires { ⌜ Checked (now s) × (CheckedBook (now b) × (c < contentCount (now s))) ⌝ }
     ensures { λ r. ⌜ r ≡ heldFor (now (s .entry)) (now (b .entry)) a c ⌝ }
 {
-    if held.content == c {
-        return held;
-    }
     Held {
         content: c,
         reached: active_reach(s, b, a, c),

@@ -1,26 +1,20 @@
 -- Eight bytes as one number: two fields are compared by words of eight bytes. Assumes nothing.
-use Prim.Native.Nat.{ℕ, _+_, _*_, _%_, _/_, _<_}
+use Prim.Native.Nat.{ℕ, _+_, _-_, _*_, _%_, _/_, _<_, _≤_}
 use mathlib.Core.List.{List}
 use mathlib.Core.Bool.{Bool, true, false, _&&_, and-assoc}
 use mathlib.Core.Path.{_≡_, refl, sym, _∙_, ap}
 use native.Mathlib.Nat.{add-comm, add-assoc, add-zero}
 use native.Mathlib.Omega.{arith}
-use borrow.Author.Tests.{eq-eqb, ne-eqb, eqb-true, eqb-false}
+use borrow.Author.Tests.{eq-eqb, ne-eqb, eqb-true, eqb-false, ltb-true, ltb-false}
 use lib.Arith.{digits-div, digits-mod}
-use lib.Bits.{bitXor}
-use lib.Dec.{eqb}
-use Rattle.laws.specs.Tests.{both}
-use Rattle.laws.specs.Below.{allBelow}
+use lib.Dec.{eqb, ltb}
+use Rattle.laws.specs.Below.{allBelow, all-at, all-of, Passed}
 use Rattle.field.specs.Read.{byteAt, u16At, u32At}
 use Rattle.field.specs.Name.{sameByte, sameName}
 
 -- the eight bytes at i
 unfoldable pub wordAt : List ℕ → ℕ → ℕ
 wordAt s i = u32At s i + u32At s (i + 4) * 4294967296
-
--- the three words of the name at i, joined
-unfoldable pub nameSum : List ℕ → ℕ → ℕ
-nameSum s i = bitXor (bitXor (wordAt s i) (wordAt s (i + 8))) (wordAt s (i + 16))
 
 -- two numbers of two digits are equal when their digits are
 digit-pair : (m a b c d : ℕ) → a < m → b < m → eqb (a + c * m) (b + d * m) ≡ (eqb a b && eqb c d)
@@ -70,17 +64,31 @@ module _ (s t : List ℕ) (b : Bytes s) (d : Bytes t) where
   unfolding sameName sameByte allBelow
   same-words i j = simp (same-64, same-32, same-16, and-assoc, add-assoc, add-zero)
 
-  -- two fields whose sums differ hold two names
-  same-sum : (i j : ℕ) → sameName s i t j ≡ true → nameSum s i ≡ nameSum t j
-  unfolding nameSum
-  same-sum i j e =
-      let w = both (eqb (wordAt s i) (wordAt t j)) _ (sym (same-words i j) ∙ e) in
-      let v = both (eqb (wordAt s (i + 8)) (wordAt t (j + 8))) _ (w .1) in
-      rw (eqb-true (wordAt s i) (wordAt t j) (w .0), eqb-true (wordAt s (i + 8)) (wordAt t (j + 8)) (v .0), eqb-true (wordAt s (i + 16)) (wordAt t (j + 16)) (v .1))
+  -- eight bytes are the same when their words are
+  word-bytes : (i j : ℕ) → eqb (wordAt s i) (wordAt t j) ≡ allBelow 8 (sameByte s i t j)
+  unfolding sameByte allBelow
+  word-bytes i j = simp (same-64, same-32, same-16, and-assoc, add-assoc, add-zero)
 
-  pub other-sum : (i j : ℕ) → (nameSum s i ≡ nameSum t j → ⊥) → sameName s i t j ≡ false
-  other-sum i j n = go (sameName s i t j) refl
+  -- byte m of the fields, as a byte of the words that start at byte k
+  byte-past : (i j k m : ℕ) → k ≤ m → sameByte s (i + k) t (j + k) (m - k) ≡ sameByte s i t j m
+  unfolding sameByte
+  byte-past i j k m l = let p : i + k + (m - k) ≡ i + m = omega arith in let q : j + k + (m - k) ≡ j + m = omega arith in rw (p, q)
+
+  -- a search that goes eight bytes a step: one step more, and a step that meets another name
+  pub passed-word : (i j k : ℕ) → Passed 24 (sameByte s i t j) k → k + 8 ≤ 24 → eqb (wordAt s (i + k)) (wordAt t (j + k)) ≡ true → Passed 24 (sameByte s i t j) (k + 8)
+  passed-word i j k h l e = record { within = l; all = all-of (k + 8) (sameByte s i t j) (λ m n. go m n (ltb m k) refl) }
     where
-      go : (x : Bool) → sameName s i t j ≡ x → sameName s i t j ≡ false
-      go true e = absurd (n (same-sum i j e))
-      go false e = e
+      go : (m : ℕ) → m < k + 8 → (x : Bool) → ltb m k ≡ x → sameByte s i t j m ≡ true
+      go m n true q = all-at k (sameByte s i t j) m (h .all) (ltb-true m k q)
+      go m n false q = let g = ltb-false m k q in sym (byte-past i j k m g) ∙ all-at 8 (sameByte s (i + k) t (j + k)) (m - k) (sym (word-bytes (i + k) (j + k)) ∙ e) (omega arith)
+
+  pub other-word : (i j k : ℕ) → k + 8 ≤ 24 → eqb (wordAt s (i + k)) (wordAt t (j + k)) ≡ false → sameName s i t j ≡ false
+  unfolding sameName
+  other-word i j k l e = go (allBelow 24 (sameByte s i t j)) refl
+    where
+      same : allBelow 24 (sameByte s i t j) ≡ true → (m : ℕ) → m < 8 → sameByte s (i + k) t (j + k) m ≡ true
+      same h m n = let z : k + m - k ≡ m = omega arith in (rw z at (byte-past i j k (k + m) (omega arith))) ∙ all-at 24 (sameByte s i t j) (k + m) h (omega arith)
+
+      go : (x : Bool) → allBelow 24 (sameByte s i t j) ≡ x → x ≡ false
+      go true h = let w = all-of 8 (sameByte s (i + k) t (j + k)) (same h) in let v = word-bytes (i + k) (j + k) in cc
+      go false h = refl

@@ -6,7 +6,7 @@ ghost use Prim.Native.Nat.{ℕ, _+_, _-_, _*_, _<_, _≤_};
 ghost use lib.ListN.{length};
 ghost use Rattle.field.specs.Read.{byteAt, u16At, u32At, floatAt, finiteAt, finiteRow};
 ghost use Rattle.field.specs.Name.{nameAt, sameName, zeroByte, emptyName, otherName, nameOk, namesOk, findName, Fields};
-ghost use Rattle.field.specs.Word.{wordAt, nameSum};
+ghost use Rattle.field.specs.Word.{wordAt};
 ghost use Rattle.laws.specs.Below.{allBelow};
 
 fn wide(x: u8) -> usize
@@ -158,16 +158,8 @@ pub fn names_ok(s: &[u8], base: usize, stride: usize, rows: usize) -> bool
     true
 }
 
-// The three words of a name, joined: where two fields' sums differ, so do the names.
-fn name_sum(s: &[u8], at: usize) -> u64
-    requires { ⌜ at + 24 ≤ length (now s) ⌝ }
-    ensures { λ r. ⌜ r ≡ nameSum (now (s .entry)) at ⌝ }
-{
-    word_at(s, at) ^ word_at(s, at + 8) ^ word_at(s, at + 16)
-}
-
 // The first row of a table of names that has the name at `at` of another slice: the labelled search that stands for a HashMap.
-// Most rows are left by their sum, since labels often begin alike.
+// The bytes go eight a step, since labels often begin alike.
 // `next` is counted at the head, so that a mismatch only leaves the row.
 pub fn find_name(
     table: &[u8],
@@ -180,21 +172,17 @@ pub fn find_name(
     requires { ⌜ Fields (now table) base stride rows × (at + 24 ≤ length (now names)) ⌝ }
     ensures { λ r. ⌜ r ≡ findName (now (table .entry)) base stride rows (now (names .entry)) at ⌝ }
 {
-    let sum = name_sum(names, at);
     let mut next = 0;
     'rows: while next < rows {
         let i = next;
         next += 1;
         let place = base + i * stride;
-        if name_sum(table, place) != sum {
-            continue 'rows;
-        }
         let mut k = 0;
         'bytes: while k < 24 {
-            if table[place + k] != names[at + k] {
+            if word_at(table, place + k) != word_at(names, at + k) {
                 continue 'rows;
             }
-            k += 1;
+            k += 8;
         }
         return Found::At(i);
     }

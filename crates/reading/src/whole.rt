@@ -74,7 +74,9 @@ fn sweep(
     while next < n {
         let row = sheet::target_at(s, base + next * 14);
         next += 1;
-        held = held_for(s, b, a, held, row.content);
+        if row.content != held.content {
+            held = held_for(s, b, a, row.content);
+        }
         let reached = held.reached;
         let Found::At(c) = row_channel(b, reached, row) else {
             continue;

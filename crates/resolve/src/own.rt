@@ -111,7 +111,9 @@ fn sweep_own(
         let Found::At(k) = own_channel(row) else {
             continue;
         };
-        held = held_for(s, b, a, held, row.content);
+        if row.content != held.content {
+            held = held_for(s, b, a, row.content);
+        }
         let reached = held.reached;
         let Found::At(p) = pane_in(reached) else {
             continue;

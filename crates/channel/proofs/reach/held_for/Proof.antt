@@ -1,4 +1,3 @@
-use Rattle.channel.specs.Held.{holds-is}
 use borrow.Author.Needs.{needs}
 use Rattle.channel.proofs.reach.held_for.Statement.{statement}
 use Rattle.channel.proofs.reach.held_for.Tie as tie
@@ -6,17 +5,13 @@ use Rattle.channel.proofs.reach.held_for.Reads as reads
 use Rattle.channel.proofs.reach.held_for.Lts as lts
 use Rattle.channel.proofs.reach.active_reach.Reads as active-reach-reads
 
--- src/reach.rt:79:9
-returns : tie.Need-returns
-returns c = holds-is (c .before .before .before .before .pre .1 .1 .1) (c .if1 .taken)
-
--- src/reach.rt:83:18
+-- src/reach.rt:80:18
 active-reach-requires : tie.Need-active-reach-requires
 active-reach-requires c κs = search needs
 
 -- src/reach.rt:74:1
-returns-2 : tie.Need-returns-2
-returns-2 c = rw (c .active-reach .ensures)
+returns : tie.Need-returns
+returns c = rw (c .active-reach .ensures)
 
 pub held-for-spec : {M : Type 1} → statement M
-held-for-spec = tie.close (tie.spec returns active-reach-requires returns-2)
+held-for-spec = tie.close (tie.spec active-reach-requires returns)
