@@ -29,9 +29,13 @@ moved srt t uv =
     let rv = su ⊗ t .sin ⊕ sv ⊗ t .cos in
     (ru ⊕ srt .translate .x ⊕ half) ∷ (rv ⊕ srt .translate .y ⊕ half) ∷ []
 
+-- the sine and cosine of an SRT's angle
+abbrev pub srtTurn : Srt → SinCos
+srtTurn srt = sinCosOf (radiansOf (srt .rotate))
+
 -- `transform_uv_srt`
 unfoldable pub transformOf : Srt → Pair → Pair
-transformOf srt uv = moved srt (sinCosOf (radiansOf (srt .rotate))) uv
+transformOf srt uv = moved srt (srtTurn srt) uv
 
 -- ---- layers, eight numbers each: u and v of top left, top right, bottom left, bottom right
 -- the Rust's unit square, for a layer that is missing

@@ -2,6 +2,7 @@
 use float::SinCos;
 ghost use mathlib.Core.Path.{_≡_};
 ghost use Rattle.geometry.specs.Corners.{sum, turnBack, turned, rotated, startOf, cornersOf, translated};
+ghost use Rattle.geometry.specs.Turns.{turnsOf, rotatedBy};
 
 #[repr(C)]
 pub struct Vector2f {
@@ -41,6 +42,38 @@ fn turn_back(degrees: f32) -> SinCos
     float::sin_cos(-float::radians(degrees))
 }
 
+// A rotation as its points take it: whether it is all zero, and else the sine and cosine of each angle, turned the other way.
+struct Turns {
+    still: bool,
+    x: SinCos,
+    y: SinCos,
+    z: SinCos,
+}
+
+// Made once for all points that it turns.
+fn turns_of(rotation: Vector3f) -> Turns
+    ensures { λ r. ⌜ r ≡ turnsOf rotation ⌝ }
+{
+    if (rotation.x == 0.0) & (rotation.y == 0.0) & (rotation.z == 0.0) {
+        let unturned = SinCos { sin: 0.0, cos: 1.0 };
+        return Turns {
+            still: true,
+            x: unturned,
+            y: unturned,
+            z: unturned,
+        };
+    }
+    let x = turn_back(rotation.x);
+    let y = turn_back(rotation.y);
+    let z = turn_back(rotation.z);
+    Turns {
+        still: false,
+        x,
+        y,
+        z,
+    }
+}
+
 // A point of the plane about the centre, turned about z, then y, then x. Its own z is 0.
 fn turn(point: Vector2f, center: Vector2f, x: SinCos, y: SinCos, z: SinCos) -> Vector2f
     ensures { λ r. ⌜ r ≡ turned point center x y z ⌝ }
@@ -54,6 +87,16 @@ fn turn(point: Vector2f, center: Vector2f, x: SinCos, y: SinCos, z: SinCos) -> V
         x: center.x + x2,
         y: center.y + y3,
     }
+}
+
+// A point about the centre under a rotation.
+fn rotate_by(point: Vector2f, center: Vector2f, t: Turns) -> Vector2f
+    ensures { λ r. ⌜ r ≡ rotatedBy point center t ⌝ }
+{
+    if t.still {
+        return add(center, point);
+    }
+    turn(point, center, t.x, t.y, t.z)
 }
 
 // Where a pane of this size starts, counted from its pivot: origin 0 is the centre, 1 left or top, 2 right or bottom.
@@ -72,13 +115,7 @@ impl Corners {
     pub fn rotate_point(point: Vector2f, center: Vector2f, rotation: Vector3f) -> Vector2f
         ensures { λ r. ⌜ r ≡ rotated point center rotation ⌝ }
     {
-        if (rotation.x == 0.0) & (rotation.y == 0.0) & (rotation.z == 0.0) {
-            return add(center, point);
-        }
-        let x = turn_back(rotation.x);
-        let y = turn_back(rotation.y);
-        let z = turn_back(rotation.z);
-        turn(point, center, x, y, z)
+        rotate_by(point, center, turns_of(rotation))
     }
 
     // The corners of a pane of this size about its pivot, which is the centre.
@@ -95,10 +132,11 @@ impl Corners {
         let ly = start(size.y, origin_y);
         let rx = lx + size.x;
         let by = ly + size.y;
-        let tl = Corners::rotate_point(Vector2f { x: lx, y: ly }, center, rotation);
-        let tr = Corners::rotate_point(Vector2f { x: rx, y: ly }, center, rotation);
-        let bl = Corners::rotate_point(Vector2f { x: lx, y: by }, center, rotation);
-        let br = Corners::rotate_point(Vector2f { x: rx, y: by }, center, rotation);
+        let t = turns_of(rotation);
+        let tl = rotate_by(Vector2f { x: lx, y: ly }, center, t);
+        let tr = rotate_by(Vector2f { x: rx, y: ly }, center, t);
+        let bl = rotate_by(Vector2f { x: lx, y: by }, center, t);
+        let br = rotate_by(Vector2f { x: rx, y: by }, center, t);
         Corners {
             topleft: tl,
             topright: tr,

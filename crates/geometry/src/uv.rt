@@ -1,10 +1,11 @@
 // The UV block: four corners of three layers of a pair (document 01, "UVs and corners"; anim_state.rs and pane_tree.rs).
 // Layers are lent as eight numbers each, u and v of top left, top right, bottom left, bottom right; SRTs as five each.
 use crate::points::Vector2f;
+use float::SinCos;
 ghost use mathlib.Core.Path.{_≡_};
 ghost use Prim.Native.Nat.{_+_, _*_, _<_, _≤_};
 ghost use lib.ListN.{length};
-ghost use Rattle.geometry.specs.Uvs.{transformOf, layerUv, baseUvs, srtAt, layerDone, layerApplied, applied, numbers};
+ghost use Rattle.geometry.specs.Uvs.{moved, srtTurn, transformOf, layerUv, baseUvs, srtAt, layerDone, layerApplied, applied, numbers};
 
 pub struct Srt {
     pub translate: Vector2f,
@@ -12,11 +13,10 @@ pub struct Srt {
     pub scale: Vector2f,
 }
 
-// A pair scaled and turned about (0.5, 0.5), then moved.
-pub fn transform_uv_srt(srt: Srt, uv: [f32; 2]) -> [f32; 2]
-    ensures { λ r. ⌜ r ≡ transformOf srt uv ⌝ }
+// A pair scaled and turned about (0.5, 0.5), then moved, by the sine and cosine of the SRT's angle.
+fn move_uv(srt: Srt, turn: SinCos, uv: [f32; 2]) -> [f32; 2]
+    ensures { λ r. ⌜ r ≡ moved srt turn uv ⌝ }
 {
-    let turn = float::sin_cos(float::radians(srt.rotate));
     let scaled_u = (uv[0] - 0.5) * srt.scale.x;
     let scaled_v = (uv[1] - 0.5) * srt.scale.y;
     let rotated_u = scaled_u * turn.cos - scaled_v * turn.sin;
@@ -25,6 +25,18 @@ pub fn transform_uv_srt(srt: Srt, uv: [f32; 2]) -> [f32; 2]
         rotated_u + srt.translate.x + 0.5,
         rotated_v + srt.translate.y + 0.5,
     ]
+}
+
+fn srt_turn(srt: Srt) -> SinCos
+    ensures { λ r. ⌜ r ≡ srtTurn srt ⌝ }
+{
+    float::sin_cos(float::radians(srt.rotate))
+}
+
+pub fn transform_uv_srt(srt: Srt, uv: [f32; 2]) -> [f32; 2]
+    ensures { λ r. ⌜ r ≡ transformOf srt uv ⌝ }
+{
+    move_uv(srt, srt_turn(srt), uv)
 }
 
 // Corner v of one layer: what is lent, or the unit square's where the layer is missing.
@@ -57,17 +69,18 @@ pub fn compute_uvs(layers: &[f32]) -> [[[f32; 2]; 3]; 4]
     uvs
 }
 
-// The block with one layer of each corner transformed.
+// The block with one layer of each corner transformed. The sine and cosine are made once.
 fn apply_layer(srt: Srt, layer: usize, uvs: [[[f32; 2]; 3]; 4]) -> [[[f32; 2]; 3]; 4]
     requires { ⌜ layer < 3 ⌝ }
     ensures { λ r. ⌜ r ≡ layerDone srt layer uvs ⌝ }
 {
+    let turn = srt_turn(srt);
     let mut out = uvs;
     let mut v = 0;
     while v < 4 {
         let mut corner = uvs[v];
         let uv = corner[layer];
-        let pair = transform_uv_srt(srt, uv);
+        let pair = move_uv(srt, turn, uv);
         corner[layer] = pair;
         out[v] = corner;
         v += 1;

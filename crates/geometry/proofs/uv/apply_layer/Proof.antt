@@ -4,18 +4,21 @@ use Prim.Native.Nat.{ℕ, _-_}
 use native.Mathlib.Omega.{arith}
 use borrow.Author.Needs.{needs}
 use Rattle.laws.specs.Table.{Filled, filled-none, filled-more, filled-all}
-use Rattle.geometry.specs.Uvs.{cornerDone}
+use Rattle.geometry.specs.Uvs.{cornerDone, transformOf}
 use Rattle.geometry.proofs.uv.apply_layer.Statement.{statement}
 use Rattle.geometry.proofs.uv.apply_layer.Tie as tie
 
 abbrev Inv-loop : tie.InvT-loop
-Inv-loop srt layer uvs₀ out₀ v₀ uvs out v = (uvs ≡ uvs₀) × Filled 4 (cornerDone srt layer uvs₀) out v
+Inv-loop srt layer uvs₀ turn out₀ v₀ uvs out v = (uvs ≡ uvs₀) × Filled 4 (cornerDone srt layer uvs₀) out v
 
 abbrev μ-loop : tie.MeasureT-loop
-μ-loop srt layer uvs₀ out₀ v₀ uvs out v = 4 - v
+μ-loop srt layer uvs₀ turn out₀ v₀ uvs out v = 4 - v
+
+srt-turn-requires : tie.Need-srt-turn-requires Inv-loop μ-loop
+srt-turn-requires c κs = search needs
 
 loop-holds : tie.Need-loop-holds Inv-loop μ-loop
-loop-holds c = (refl, subst (λ (n : ℕ). Filled n (cornerDone (c .args .srt) (c .args .layer) (c .args .t3)) (c .args .t3) 0) (omega arith) (filled-none _ _))
+loop-holds c = (refl, subst (λ (n : ℕ). Filled n (cornerDone (c .before .args .srt) (c .before .args .layer) (c .before .args .t3)) (c .before .args .t3) 0) (omega arith) (filled-none _ _))
 
 mul-corner : tie.Need-mul-corner Inv-loop μ-loop
 mul-corner c = omega arith
@@ -29,8 +32,8 @@ mul-uv c = omega arith
 array-copy-out-uv : tie.Need-array-copy-out-uv Inv-loop μ-loop
 array-copy-out-uv c = omega arith
 
-transform-uv-srt-requires : tie.Need-transform-uv-srt-requires Inv-loop μ-loop
-transform-uv-srt-requires c κs = search needs
+move-uv-requires : tie.Need-move-uv-requires Inv-loop μ-loop
+move-uv-requires c κs = search needs
 
 mul-corner-2 : tie.Need-mul-corner-2 Inv-loop μ-loop
 mul-corner-2 c = omega arith
@@ -51,10 +54,10 @@ loop-less : tie.Need-loop-less Inv-loop μ-loop
 loop-less c = omega arith
 
 loop-again : tie.Need-loop-again Inv-loop μ-loop
-unfolding cornerDone
+unfolding cornerDone transformOf
 loop-again c =
     let at = c .before .before .before .before in
-    (at .loop .inv .0, filled-more (at .loop .inv .1) (omega arith) (cc))
+    (at .loop .inv .0, filled-more (at .loop .inv .1) (omega arith) (cc (at .before .srt-turn .ensures)))
 
 returns : tie.Need-returns Inv-loop μ-loop
 returns c = filled-all (c .before .loop .inv .1) (omega arith)
@@ -65,12 +68,13 @@ apply-layer-spec =
     (tie.spec
     Inv-loop
     μ-loop
+    srt-turn-requires
     loop-holds
     mul-corner
     array-copy-out-corner
     mul-uv
     array-copy-out-uv
-    transform-uv-srt-requires
+    move-uv-requires
     mul-corner-2
     array-set-from-corner
     mul-out

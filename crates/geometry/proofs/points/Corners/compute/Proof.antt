@@ -1,5 +1,6 @@
--- The six calls give the start of each axis and the four corners.
+-- The start of each axis, and the four corners under one rotation.
 use Rattle.geometry.specs.Corners.{cornersOf}
+use Rattle.geometry.specs.Turns.{turned-once}
 use borrow.Author.Needs.{needs}
 use Rattle.geometry.proofs.points.Corners.compute.Statement.{statement}
 use Rattle.geometry.proofs.points.Corners.compute.Tie as tie
@@ -10,21 +11,31 @@ start-requires c κs = search needs
 start-requires-2 : tie.Need-start-requires-2
 start-requires-2 c κs = search needs
 
-rotate-point-requires : tie.Need-rotate-point-requires
-rotate-point-requires c κs = search needs
+turns-of-requires : tie.Need-turns-of-requires
+turns-of-requires c κs = search needs
 
-rotate-point-requires-2 : tie.Need-rotate-point-requires-2
-rotate-point-requires-2 c κs = search needs
+rotate-by-requires : tie.Need-rotate-by-requires
+rotate-by-requires c κs = search needs
 
-rotate-point-requires-3 : tie.Need-rotate-point-requires-3
-rotate-point-requires-3 c κs = search needs
+rotate-by-requires-2 : tie.Need-rotate-by-requires-2
+rotate-by-requires-2 c κs = search needs
 
-rotate-point-requires-4 : tie.Need-rotate-point-requires-4
-rotate-point-requires-4 c κs = search needs
+rotate-by-requires-3 : tie.Need-rotate-by-requires-3
+rotate-by-requires-3 c κs = search needs
+
+rotate-by-requires-4 : tie.Need-rotate-by-requires-4
+rotate-by-requires-4 c κs = search needs
 
 returns : tie.Need-returns
 unfolding cornersOf
-returns c = cc
+returns c =
+    let t = c .before .before .before .before in
+    cc (
+      turned-once _ _ _ _ _ (t .turns-of .ensures) (c .before .before .before .rotate-by .ensures),
+      turned-once _ _ _ _ _ (t .turns-of .ensures) (c .before .before .rotate-by2 .ensures),
+      turned-once _ _ _ _ _ (t .turns-of .ensures) (c .before .rotate-by3 .ensures),
+      turned-once _ _ _ _ _ (t .turns-of .ensures) (c .rotate-by4 .ensures),
+    )
 
 pub compute-spec : {M : Type 1} → statement M
 compute-spec =
@@ -32,8 +43,9 @@ compute-spec =
     (tie.spec
     start-requires
     start-requires-2
-    rotate-point-requires
-    rotate-point-requires-2
-    rotate-point-requires-3
-    rotate-point-requires-4
+    turns-of-requires
+    rotate-by-requires
+    rotate-by-requires-2
+    rotate-by-requires-3
+    rotate-by-requires-4
     returns)
