@@ -1,5 +1,8 @@
 // Whether a slice of bytes is a book: row 2 of the table of refusals.
 // A row's check has no early way out, so that its fields are read side by side; the loops over rows have one.
+use crate::rows::HEAD;
+use crate::rows::MATERIAL_BYTES;
+use crate::rows::PANE_BYTES;
 use field::byte_at;
 use field::u16_at;
 ghost use mathlib.Core.Path.{_≡_};
@@ -14,14 +17,14 @@ fn sizes_ok(b: &[u8]) -> bool
 {
     let p = u16_at(b, 0);
     let m = u16_at(b, 2);
-    (1 <= p) & (p <= 64) & (m <= 32) & (b.len() == 4 + p * 72 + m * 156)
+    (1 <= p) & (p <= 64) & (m <= 32) & (b.len() == HEAD + p * PANE_BYTES + m * MATERIAL_BYTES)
 }
 
 fn pane_ok(b: &[u8], i: usize) -> bool
     requires { ⌜ 4 + i * 72 + 72 ≤ length (now b) ⌝ }
     ensures { λ r. ⌜ r ≡ paneOk (now (b .entry)) i ⌝ }
 {
-    let at = 4 + i * 72;
+    let at = HEAD + i * PANE_BYTES;
     let parent = u16_at(b, at + 24);
     ((parent == 65535) | (parent < i))
         & (byte_at(b, at + 26) <= 3)
@@ -50,7 +53,7 @@ fn material_ok(b: &[u8], base: usize, i: usize) -> bool
     requires { ⌜ base + i * 156 + 156 ≤ length (now b) ⌝ }
     ensures { λ r. ⌜ r ≡ materialOk (now (b .entry)) base i ⌝ }
 {
-    field::finite_row(b, base + i * 156 + 96, 15)
+    field::finite_row(b, base + i * MATERIAL_BYTES + 96, 15)
 }
 
 fn materials_ok(b: &[u8], base: usize, n: usize) -> bool
@@ -72,7 +75,7 @@ fn materials_ok(b: &[u8], base: usize, n: usize) -> bool
 pub fn book_ok(b: &[u8]) -> bool
     ensures { λ r. ⌜ r ≡ bookOk (now (b .entry)) ⌝ }
 {
-    if b.len() < 4 {
+    if b.len() < HEAD {
         return false;
     }
     if !sizes_ok(b) {
@@ -80,9 +83,9 @@ pub fn book_ok(b: &[u8]) -> bool
     }
     let p = u16_at(b, 0);
     let m = u16_at(b, 2);
-    let materials = 4 + p * 72;
+    let materials = HEAD + p * PANE_BYTES;
     panes_ok(b, p)
         & materials_ok(b, materials, m)
-        & field::names_ok(b, 4, 72, p)
-        & field::names_ok(b, materials, 156, m)
+        & field::names_ok(b, HEAD, PANE_BYTES, p)
+        & field::names_ok(b, materials, MATERIAL_BYTES, m)
 }

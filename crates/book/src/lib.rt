@@ -3,6 +3,9 @@ mod layout;
 mod rows;
 
 pub use layout::book_ok;
+pub use rows::HEAD;
+pub use rows::MATERIAL_BYTES;
+pub use rows::PANE_BYTES;
 pub use rows::Pane;
 pub use rows::Srt;
 pub use rows::Vector2;

@@ -10,6 +10,13 @@ ghost use Rattle.book.specs.Rows.{vector2At, vector3At, paneRow, materia
 ghost use Rattle.book.specs.Checked.{CheckedBook};
 ghost use Rattle.field.specs.Read.{FiniteFrom};
 
+// How many bytes the sizes take, and each row.
+pub const HEAD: usize = 4;
+
+pub const PANE_BYTES: usize = 72;
+
+pub const MATERIAL_BYTES: usize = 156;
+
 pub struct Vector2 {
     pub x: f32,
     pub y: f32,
@@ -60,7 +67,7 @@ pub fn materials_at(b: &[u8]) -> usize
     requires { ⌜ 4 ≤ length (now b) ⌝ }
     ensures { λ r. ⌜ r ≡ materialsAt (now (b .entry)) ⌝ }
 {
-    4 + u16_at(b, 0) * 72
+    HEAD + u16_at(b, 0) * PANE_BYTES
 }
 
 // ---- rows
@@ -90,7 +97,7 @@ pub fn pane_row(b: &[u8], i: usize) -> Pane
     requires { ⌜ CheckedBook (now b) × (i < paneCount (now b)) ⌝ }
     ensures { λ r. ⌜ r ≡ paneRow (now (b .entry)) i ⌝ }
 {
-    let at = 4 + i * 72;
+    let at = HEAD + i * PANE_BYTES;
     let flags = byte_at(b, at + 26);
     Pane {
         parent: u16_at(b, at + 24),
@@ -111,7 +118,7 @@ pub fn material_srt(b: &[u8], i: usize, j: usize) -> Srt
     requires { ⌜ CheckedBook (now b) × ((i < materialCount (now b)) × (j < 3)) ⌝ }
     ensures { λ r. ⌜ r ≡ materialSrt (now (b .entry)) i j ⌝ }
 {
-    let at = materials_at(b) + i * 156 + 96 + j * 20;
+    let at = materials_at(b) + i * MATERIAL_BYTES + 96 + j * 20;
     Srt {
         translate: vector2_at(b, at),
         rotate: f32_at(b, at + 8),
@@ -125,14 +132,14 @@ pub fn pane_label<'a>(b: &'a [u8], i: usize) -> &'a [u8]
     requires { ⌜ CheckedBook (now b) × (i < paneCount (now b)) ⌝ }
     ensures { λ r. ⌜ now r ≡ paneLabel (now (b .entry)) i ⌝ }
 {
-    field::name_at(b, 4 + i * 72)
+    field::name_at(b, HEAD + i * PANE_BYTES)
 }
 
 pub fn material_name<'a>(b: &'a [u8], i: usize) -> &'a [u8]
     requires { ⌜ CheckedBook (now b) × (i < materialCount (now b)) ⌝ }
     ensures { λ r. ⌜ now r ≡ materialName (now (b .entry)) i ⌝ }
 {
-    field::name_at(b, materials_at(b) + i * 156)
+    field::name_at(b, materials_at(b) + i * MATERIAL_BYTES)
 }
 
 // Texture j of material i.
@@ -140,5 +147,5 @@ pub fn material_texture<'a>(b: &'a [u8], i: usize, j: usize) -> &'a [u8]
     requires { ⌜ CheckedBook (now b) × ((i < materialCount (now b)) × (j < 3)) ⌝ }
     ensures { λ r. ⌜ now r ≡ materialTexture (now (b .entry)) i j ⌝ }
 {
-    field::name_at(b, materials_at(b) + i * 156 + 24 + j * 24)
+    field::name_at(b, materials_at(b) + i * MATERIAL_BYTES + 24 + j * 24)
 }

@@ -11,9 +11,9 @@ ghost use Rattle.channel.specs.Channel.{familyOf, listed, paneChannel, c
 ghost use Rattle.channel.specs.Within.{ReachedIn};
 
 // How many channels a pane has, and a material.
-const PANE_CHANNELS: usize = 28;
+pub const PANE_CHANNELS: usize = 28;
 
-const MATERIAL_CHANNELS: usize = 30;
+pub const MATERIAL_CHANNELS: usize = 30;
 
 // The four letters of a code as one number, little-endian.
 const FLPA: u32 = 0x4150_4c46;

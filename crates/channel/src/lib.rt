@@ -3,6 +3,8 @@ mod address;
 mod place;
 mod reach;
 
+pub use address::MATERIAL_CHANNELS;
+pub use address::PANE_CHANNELS;
 pub use address::channel_count;
 pub use address::family_of;
 pub use address::of_material;

@@ -1,7 +1,13 @@
 // Whether a target addresses one given channel: the channel's row of the book is known, so its name is compared and none is searched for.
+use crate::address::MATERIAL_CHANNELS;
+use crate::address::PANE_CHANNELS;
 use crate::address::material_row_channel;
 use crate::address::pane_row_channel;
+use book::MATERIAL_BYTES;
+use book::PANE_BYTES;
 use laws::Found;
+use sheet::CONTENT_BYTES;
+use sheet::ROW_NAME;
 use sheet::Target;
 ghost use mathlib.Core.Path.{_≡_};
 ghost use Prim.Native.Nat.{ℕ, _<_};
@@ -23,12 +29,12 @@ pub fn place_of(b: &[u8], c: usize) -> Place
     requires { ⌜ CheckedBook (now b) ⌝ }
     ensures { λ r. ⌜ r ≡ placeOf (now (b .entry)) c ⌝ }
 {
-    let panes = book::pane_count(b) * 28;
+    let panes = book::pane_count(b) * PANE_CHANNELS;
     if c < panes {
-        return Place::Pane(c / 28, c % 28);
+        return Place::Pane(c / PANE_CHANNELS, c % PANE_CHANNELS);
     }
     let rest = c - panes;
-    Place::Material(rest / 30, rest % 30)
+    Place::Material(rest / MATERIAL_CHANNELS, rest % MATERIAL_CHANNELS)
 }
 
 fn is_at(f: Found, c: usize) -> bool
@@ -50,8 +56,8 @@ fn reaches_pane(s: &[u8], b: &[u8], a: usize, c: usize, p: usize) -> bool
         return false;
     }
     if (row.kind == 0) | (row.kind == 3) {
-        let at = sheet::contents_at(s) + c * 28 + 4;
-        return field::same_name(b, 4 + p * 72, s, at);
+        let at = sheet::contents_at(s) + c * CONTENT_BYTES + ROW_NAME;
+        return field::same_name(b, book::HEAD + p * PANE_BYTES, s, at);
     }
     false
 }
@@ -65,8 +71,8 @@ fn reaches_material(s: &[u8], b: &[u8], a: usize, c: usize, m: usize) -> bool
         return false;
     }
     if row.kind == 1 {
-        let at = sheet::contents_at(s) + c * 28 + 4;
-        return field::same_name(b, book::materials_at(b) + m * 156, s, at);
+        let at = sheet::contents_at(s) + c * CONTENT_BYTES + ROW_NAME;
+        return field::same_name(b, book::materials_at(b) + m * MATERIAL_BYTES, s, at);
     }
     false
 }

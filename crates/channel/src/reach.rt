@@ -1,6 +1,10 @@
 // The row of the book that a content reaches.
 use crate::Reached;
+use book::MATERIAL_BYTES;
+use book::PANE_BYTES;
 use laws::Found;
+use sheet::CONTENT_BYTES;
+use sheet::ROW_NAME;
 ghost use mathlib.Core.Path.{_≡_};
 ghost use Prim.Native.Nat.{ℕ, _<_};
 ghost use Rattle.sheet.specs.Sizes.{contentCount};
@@ -38,13 +42,20 @@ fn content_reach(s: &[u8], b: &[u8], c: usize) -> Reached
     ensures { λ r. ⌜ r ≡ contentReach (now (s .entry)) (now (b .entry)) c ⌝ }
 {
     let row = sheet::content_row(s, c);
-    let at = sheet::contents_at(s) + c * 28 + 4;
+    let at = sheet::contents_at(s) + c * CONTENT_BYTES + ROW_NAME;
     if (row.kind == 0) | (row.kind == 3) {
-        return as_pane(field::find_name(b, 4, 72, book::pane_count(b), s, at));
+        return as_pane(field::find_name(b, book::HEAD, PANE_BYTES, book::pane_count(b), s, at));
     }
     if row.kind == 1 {
         let base = book::materials_at(b);
-        return as_material(field::find_name(b, base, 156, book::material_count(b), s, at));
+        return as_material(field::find_name(
+            b,
+            base,
+            MATERIAL_BYTES,
+            book::material_count(b),
+            s,
+            at,
+        ));
     }
     Reached::Nothing
 }

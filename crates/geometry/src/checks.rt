@@ -2,17 +2,13 @@
 use crate::points::Corners;
 use crate::points::Vector2f;
 use crate::points::Vector3f;
+use laws::refusal::ACCEPTED;
+use laws::refusal::ANGLE_TOO_LARGE;
+use laws::refusal::BAD_ARGUMENT;
+use laws::refusal::NO_SUCH_ROW;
+use laws::refusal::OUTPUT_LENGTH;
 ghost use mathlib.Core.Path.{_≡_};
 ghost use Rattle.geometry.specs.Declined.{anglePasses, finite2, finite3, finite4, allFinite, anglesPass, rotationRefusal, uvsRefusal, cornersRefusal, translateRefusal, rotateRefusal};
-
-// The numbers of the table.
-const NO_SUCH_ORIGIN: u8 = 7;
-
-const BAD_ARGUMENT: u8 = 8;
-
-const ANGLE_TOO_LARGE: u8 = 12;
-
-const WRONG_LENGTH: u8 = 13;
 
 // At most 3,600 degrees in size.
 fn angle_passes(degrees: f32) -> bool
@@ -91,9 +87,9 @@ pub fn uvs_refusal(layers: &[f32], srts: &[f32], length: usize) -> u8
         return ANGLE_TOO_LARGE;
     }
     if length != 24 {
-        return WRONG_LENGTH;
+        return OUTPUT_LENGTH;
     }
-    0
+    ACCEPTED
 }
 
 fn rotation_refusal(rotation: Vector3f) -> u8
@@ -111,7 +107,7 @@ fn rotation_refusal(rotation: Vector3f) -> u8
     if !angle_passes(rotation.z) {
         return ANGLE_TOO_LARGE;
     }
-    0
+    ACCEPTED
 }
 
 pub fn corners_refusal(
@@ -124,10 +120,10 @@ pub fn corners_refusal(
     ensures { λ r. ⌜ r ≡ cornersRefusal center size «origin_x» «origin_y» rotation ⌝ }
 {
     if origin_x > 2 {
-        return NO_SUCH_ORIGIN;
+        return NO_SUCH_ROW;
     }
     if origin_y > 2 {
-        return NO_SUCH_ORIGIN;
+        return NO_SUCH_ROW;
     }
     if !is_finite2(center) {
         return BAD_ARGUMENT;
@@ -147,7 +143,7 @@ pub fn translate_refusal(corners: Corners, delta: Vector2f) -> u8
     if !is_finite2(delta) {
         return BAD_ARGUMENT;
     }
-    0
+    ACCEPTED
 }
 
 pub fn rotate_refusal(point: Vector2f, center: Vector2f, rotation: Vector3f) -> u8

@@ -5,6 +5,7 @@ mod checks;
 pub mod points;
 mod uv;
 
+use laws::refusal::ACCEPTED;
 use points::Corners;
 use points::Vector2f;
 use points::Vector3f;
@@ -45,13 +46,13 @@ pub fn uvs(layers: &[f32], srts: &[f32], out: &mut [f32]) -> u8
     ensures { λ r. ⌜ filled r (now (out .exit)) ≡ uvsOf (now (layers .entry)) (now (srts .entry)) (now (out .entry)) ⌝ }
 {
     let refusal = checks::uvs_refusal(layers, srts, out.len());
-    if refusal != 0 {
+    if refusal != ACCEPTED {
         return refusal;
     }
     let base = uv::compute_uvs(layers);
     let block = uv::apply_srt_to_uvs(base, srts);
     uv::store(block, out);
-    0
+    ACCEPTED
 }
 
 // The corners of a pane.
@@ -65,13 +66,13 @@ pub fn corners(
     ensures { λ r. ⌜ r ≡ placedOf center size «origin_x» «origin_y» rotation ⌝ }
 {
     let refusal = checks::corners_refusal(center, size, origin_x, origin_y, rotation);
-    if refusal != 0 {
+    if refusal != ACCEPTED {
         let corners = no_corners();
         return Placed { refusal, corners };
     }
     let corners = Corners::compute(center, size, origin_x, origin_y, rotation);
     Placed {
-        refusal: 0,
+        refusal: ACCEPTED,
         corners,
     }
 }
@@ -81,13 +82,13 @@ pub fn translate(corners: Corners, delta: Vector2f) -> Placed
     ensures { λ r. ⌜ r ≡ movedOf corners delta ⌝ }
 {
     let refusal = checks::translate_refusal(corners, delta);
-    if refusal != 0 {
+    if refusal != ACCEPTED {
         let corners = no_corners();
         return Placed { refusal, corners };
     }
     let corners = corners.translate(delta);
     Placed {
-        refusal: 0,
+        refusal: ACCEPTED,
         corners,
     }
 }
@@ -97,10 +98,13 @@ pub fn rotate_point(point: Vector2f, center: Vector2f, rotation: Vector3f) -> Tu
     ensures { λ r. ⌜ r ≡ turnedOf point center rotation ⌝ }
 {
     let refusal = checks::rotate_refusal(point, center, rotation);
-    if refusal != 0 {
+    if refusal != ACCEPTED {
         let point = Vector2f { x: 0.0, y: 0.0 };
         return Turned { refusal, point };
     }
     let point = Corners::rotate_point(point, center, rotation);
-    Turned { refusal: 0, point }
+    Turned {
+        refusal: ACCEPTED,
+        point,
+    }
 }

@@ -2,34 +2,31 @@
 use crate::stored::frames_at;
 use crate::stored::points_at;
 use crate::stored::stored_ok;
+use laws::refusal::ACCEPTED;
+use laws::refusal::KEY_ARRAY_LENGTH;
+use laws::refusal::KEY_RULES;
+use laws::refusal::SHEET_LAYOUT;
 ghost use mathlib.Core.Path.{_≡_};
 ghost use Prim.Native.Nat.{ℕ, _+_, _*_, _<_};
 ghost use lib.ListN.{length};
 ghost use Rattle.keys.specs.Stored.{floatsFrom, Floats};
 ghost use Rattle.keys.specs.Load.{loadRefusal, loaded, loadOf};
 
-// The numbers of the table of refusals that loading gives.
-const LAYOUT: u8 = 1;
-
-const ARRAYS: u8 = 3;
-
-const KEYS: u8 = 4;
-
 // Why arrays of these lengths can't be loaded, or 0.
 pub fn load_refusal(s: &[u8], frames: usize, values: usize, slopes: usize) -> u8
     ensures { λ r. ⌜ r ≡ loadRefusal (now (s .entry)) frames values slopes ⌝ }
 {
     if !sheet::sheet_ok(s) {
-        return LAYOUT;
+        return SHEET_LAYOUT;
     }
     let n = sheet::key_count(s);
     if !((frames == n) & (values == n) & (slopes == n)) {
-        return ARRAYS;
+        return KEY_ARRAY_LENGTH;
     }
     if !stored_ok(s) {
-        return KEYS;
+        return KEY_RULES;
     }
-    0
+    ACCEPTED
 }
 
 // The f32 at `at`, and those each `stride` bytes on, into a lent array.
@@ -50,12 +47,12 @@ pub fn load_keys(s: &[u8], frames: &mut [f32], values: &mut [f32], slopes: &mut 
     ensures { λ r. ⌜ loaded r (now (frames .exit)) (now (values .exit)) (now (slopes .exit)) ≡ loadOf (now (s .entry)) (now (frames .entry)) (now (values .entry)) (now (slopes .entry)) ⌝ }
 {
     let n = load_refusal(s, frames.len(), values.len(), slopes.len());
-    if n != 0 {
+    if n != ACCEPTED {
         return n;
     }
     let points = points_at(s);
     copy_floats(s, frames_at(s), 4, frames);
     copy_floats(s, points, 8, values);
     copy_floats(s, points + 4, 8, slopes);
-    0
+    ACCEPTED
 }

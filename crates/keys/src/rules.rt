@@ -102,7 +102,7 @@ fn held_track(
     requires { ⌜ Fit (now s) (now frames) (now values) (now slopes) × ((base ≡ targetsAt (now s)) × (t < targetCount (now s))) ⌝ }
     ensures { λ r. ⌜ r ≡ heldTrack (now (s .entry)) (now (frames .entry)) (now (values .entry)) (now (slopes .entry)) t ⌝ }
 {
-    let at = base + t * 14;
+    let at = base + t * sheet::TARGET_BYTES;
     let first = field::u16_at(s, at + 10);
     let count = field::u16_at(s, at + 12);
     if first + count > frames.len() {

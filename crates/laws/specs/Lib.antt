@@ -1,6 +1,7 @@
 -- Laws on loops and lists, one file a kind of loop.
 pub mod Tests
 pub mod Below
+pub mod But
 pub mod Joined
 pub mod Sum
 pub mod First

@@ -1,4 +1,10 @@
 // The rows of the table that look at what a call takes, whatever it does: 1 the sheet, 2 the book, 3 and 4 the keys, 5 the player.
+use laws::refusal::ACCEPTED;
+use laws::refusal::BOOK_LAYOUT;
+use laws::refusal::BROKEN_STATE;
+use laws::refusal::KEY_ARRAY_LENGTH;
+use laws::refusal::KEY_RULES;
+use laws::refusal::SHEET_LAYOUT;
 use player::Player;
 ghost use mathlib.Core.Path.{_≡_};
 ghost use Prim.Native.Nat.{_≤_};
@@ -12,12 +18,12 @@ pub fn check_player(p: Player, s: &[u8]) -> u8
     ensures { λ r. ⌜ r ≡ checkPlayer (now (s .entry)) p 0 ⌝ }
 {
     if !sheet::sheet_ok(s) {
-        return 1;
+        return SHEET_LAYOUT;
     }
     if !p.ok(s) {
-        return 5;
+        return BROKEN_STATE;
     }
-    0
+    ACCEPTED
 }
 
 // Row 3: each key array is K long.
@@ -34,18 +40,18 @@ pub fn check_keys(p: Player, s: &[u8], frames: &[f32], values: &[f32], slopes: &
     ensures { λ r. ⌜ r ≡ checkKeys (now (s .entry)) p (keys (now (frames .entry)) (now (values .entry)) (now (slopes .entry))) 0 ⌝ }
 {
     if !sheet::sheet_ok(s) {
-        return 1;
+        return SHEET_LAYOUT;
     }
     if !lengths_ok(s, frames, values, slopes) {
-        return 3;
+        return KEY_ARRAY_LENGTH;
     }
     if !keys::keys_ok(s, frames, values, slopes) {
-        return 4;
+        return KEY_RULES;
     }
     if !p.ok(s) {
-        return 5;
+        return BROKEN_STATE;
     }
-    0
+    ACCEPTED
 }
 
 // Rows 1 to 5, and 0 where none declines.
@@ -60,19 +66,19 @@ pub fn check_book(
     ensures { λ r. ⌜ r ≡ checkBook (now (s .entry)) (now (b .entry)) p (keys (now (frames .entry)) (now (values .entry)) (now (slopes .entry))) 0 ⌝ }
 {
     if !sheet::sheet_ok(s) {
-        return 1;
+        return SHEET_LAYOUT;
     }
     if !book::book_ok(b) {
-        return 2;
+        return BOOK_LAYOUT;
     }
     if !lengths_ok(s, frames, values, slopes) {
-        return 3;
+        return KEY_ARRAY_LENGTH;
     }
     if !keys::keys_ok(s, frames, values, slopes) {
-        return 4;
+        return KEY_RULES;
     }
     if !p.ok(s) {
-        return 5;
+        return BROKEN_STATE;
     }
-    0
+    ACCEPTED
 }

@@ -1,6 +1,9 @@
 // The edits of one key.
 use crate::check::check_keys;
 use crate::playing::Played;
+use laws::refusal::ACCEPTED;
+use laws::refusal::NO_ANIMATION;
+use laws::refusal::NO_SUCH_ROW;
 use player::NONE;
 use player::Player;
 use player::edit::Request;
@@ -27,14 +30,14 @@ fn edit_refusal(
     ensures { λ n. ⌜ n ≡ checkKeys (now (s .entry)) p (keys (now (frames .entry)) (now (values .entry)) (now (slopes .entry))) (editRefusal (now (s .entry)) (p .selection) (keys (now (frames .entry)) (now (values .entry)) (now (slopes .entry))) track key r) ⌝ }
 {
     let n = check_keys(p, s, frames, values, slopes);
-    if n != 0 {
+    if n != ACCEPTED {
         return n;
     }
     if p.selection == NONE {
-        return 6;
+        return NO_ANIMATION;
     }
     if !key_in(s, p.selection, track, key) {
-        return 7;
+        return NO_SUCH_ROW;
     }
     let spot = spot_of(s, track as usize, key);
     request_refusal(frames, spot, r)
@@ -54,7 +57,7 @@ fn edit(
     ensures { λ g. ⌜ gave g (keys (now (frames .exit)) (now (values .exit)) (now (slopes .exit))) ≡ editOf (now (s .entry)) p (keys (now (frames .entry)) (now (values .entry)) (now (slopes .entry))) track key r ⌝ }
 {
     let n = edit_refusal(p, s, frames, values, slopes, track, key, r);
-    if n != 0 {
+    if n != ACCEPTED {
         return Played {
             refusal: n,
             player: p,
@@ -72,7 +75,7 @@ fn edit(
         after,
     };
     Played {
-        refusal: 0,
+        refusal: ACCEPTED,
         player: p.after_edit(e),
     }
 }

@@ -1,5 +1,8 @@
 // Play, pose and tick.
 use crate::check::check_player;
+use laws::refusal::ACCEPTED;
+use laws::refusal::BAD_ARGUMENT;
+use laws::refusal::NO_ANIMATION;
 use player::NONE;
 use player::Player;
 use player::Tick;
@@ -25,13 +28,13 @@ fn play_refusal(p: Player, s: &[u8], animation: u16) -> u8
     ensures { λ r. ⌜ r ≡ checkPlayer (now (s .entry)) p (playRest (now (s .entry)) animation) ⌝ }
 {
     let n = check_player(p, s);
-    if n != 0 {
+    if n != ACCEPTED {
         return n;
     }
     if (animation == NONE) | ((animation as usize) < sheet::animation_count(s)) {
-        return 0;
+        return ACCEPTED;
     }
-    6
+    NO_ANIMATION
 }
 
 // Plays an animation from its start. Refusals 1, 5, 6.
@@ -39,14 +42,14 @@ pub fn play(p: Player, s: &[u8], animation: u16) -> Played
     ensures { λ r. ⌜ r ≡ playOf (now (s .entry)) p animation ⌝ }
 {
     let n = play_refusal(p, s, animation);
-    if n != 0 {
+    if n != ACCEPTED {
         return Played {
             refusal: n,
             player: p,
         };
     }
     Played {
-        refusal: 0,
+        refusal: ACCEPTED,
         player: p.play(animation),
     }
 }
@@ -55,13 +58,13 @@ fn pose_refusal(p: Player, s: &[u8], frame: f32) -> u8
     ensures { λ r. ⌜ r ≡ checkPlayer (now (s .entry)) p (poseRest frame) ⌝ }
 {
     let n = check_player(p, s);
-    if n != 0 {
+    if n != ACCEPTED {
         return n;
     }
     if float::is_finite(frame) {
-        return 0;
+        return ACCEPTED;
     }
-    8
+    BAD_ARGUMENT
 }
 
 // Holds an animation at a frame; none, and a number that the sheet doesn't have, clear the selection. Refusals 1, 5, 8.
@@ -69,14 +72,14 @@ pub fn pose(p: Player, s: &[u8], animation: u16, frame: f32) -> Played
     ensures { λ r. ⌜ r ≡ poseOf (now (s .entry)) p animation frame ⌝ }
 {
     let n = pose_refusal(p, s, frame);
-    if n != 0 {
+    if n != ACCEPTED {
         return Played {
             refusal: n,
             player: p,
         };
     }
     Played {
-        refusal: 0,
+        refusal: ACCEPTED,
         player: p.pose(s, animation, frame),
     }
 }
@@ -97,16 +100,16 @@ fn tick_refusal(p: Player, s: &[u8], dt: f32, fps: f32) -> u8
     ensures { λ r. ⌜ r ≡ checkPlayer (now (s .entry)) p (tickRest (now (s .entry)) (viewOf p) dt fps) ⌝ }
 {
     let n = check_player(p, s);
-    if n != 0 {
+    if n != ACCEPTED {
         return n;
     }
     if !(float::is_finite(dt) & float::is_finite(fps)) {
-        return 8;
+        return BAD_ARGUMENT;
     }
     if tick_moves(p, s, dt, fps) {
-        return 0;
+        return ACCEPTED;
     }
-    8
+    BAD_ARGUMENT
 }
 
 // Lets dt seconds pass at fps frames a second. Refusals 1, 5, 8.
@@ -114,7 +117,7 @@ pub fn tick(p: Player, s: &[u8], dt: f32, fps: f32) -> Ticked
     ensures { λ r. ⌜ r ≡ tickOf (now (s .entry)) p dt fps ⌝ }
 {
     let n = tick_refusal(p, s, dt, fps);
-    if n != 0 {
+    if n != ACCEPTED {
         return Ticked {
             refusal: n,
             answer: Tick::Idle,
@@ -125,7 +128,7 @@ pub fn tick(p: Player, s: &[u8], dt: f32, fps: f32) -> Ticked
     let answer = next.answer;
     let player = next.player;
     Ticked {
-        refusal: 0,
+        refusal: ACCEPTED,
         answer,
         player,
     }

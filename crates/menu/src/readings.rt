@@ -1,18 +1,16 @@
 // The readings: one channel, all channels, resolving, a resolved texture name, and the cascade.
 use crate::check::check_book;
 use book::Srt;
+use laws::refusal::ACCEPTED;
+use laws::refusal::OUTPUT_LENGTH;
 use player::NONE;
 use player::Player;
 use reading::Active;
 use reading::Reading;
 use resolve::Transform;
 ghost use mathlib.Core.Path.{_≡_};
-ghost use Prim.Native.Nat.{_≤_};
-ghost use lib.ListN.{length};
 ghost use Rattle.player.specs.Keys.{keys};
 ghost use Rattle.player.specs.View.{viewOf};
-ghost use Rattle.book.specs.Checked.{CheckedBook};
-ghost use Rattle.channel.specs.Channel.{channelCount};
 ghost use Rattle.menu.specs.Readings.{checkBook, activeIn, tablesRest, gaveTables, readAllOf};
 
 // One channel's reading.
@@ -48,14 +46,6 @@ pub fn active_in(p: Player) -> Active
     Active::Nothing
 }
 
-// How many channels a book has.
-fn channel_count(b: &[u8]) -> usize
-    requires { ⌜ CheckedBook (now b) ⌝ }
-    ensures { λ r. ⌜ r ≡ channelCount (now (b .entry)) ⌝ }
-{
-    book::pane_count(b) * 28 + book::material_count(b) * 30
-}
-
 fn read_all_refusal(
     p: Player,
     s: &[u8],
@@ -69,14 +59,14 @@ fn read_all_refusal(
     ensures { λ n. ⌜ n ≡ checkBook (now (s .entry)) (now (b .entry)) p (keys (now (frames .entry)) (now (values .entry)) (now (slopes .entry))) (tablesRest (now (b .entry)) (now (marks .entry)) (now (numbers .entry))) ⌝ }
 {
     let n = check_book(p, s, b, frames, values, slopes);
-    if n != 0 {
+    if n != ACCEPTED {
         return n;
     }
-    let count = channel_count(b);
+    let count = channel::channel_count(b);
     if (marks.len() == count) & (numbers.len() == count) {
-        return 0;
+        return ACCEPTED;
     }
-    13
+    OUTPUT_LENGTH
 }
 
 // Every channel of the book: a mark (0 or 1) and a number each, panes first. Refusals 1 to 5, 13.
@@ -93,9 +83,9 @@ pub fn read_all(
     ensures { λ n. ⌜ gaveTables n (now (marks .exit)) (now (numbers .exit)) ≡ readAllOf (now (s .entry)) (now (b .entry)) p (keys (now (frames .entry)) (now (values .entry)) (now (slopes .entry))) (now (marks .entry)) (now (numbers .entry)) ⌝ }
 {
     let n = read_all_refusal(p, s, b, frames, values, slopes, marks, numbers);
-    if n != 0 {
+    if n != ACCEPTED {
         return n;
     }
     reading::read_all(s, b, frames, values, slopes, active_in(p), marks, numbers);
-    0
+    ACCEPTED
 }

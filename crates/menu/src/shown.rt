@@ -1,6 +1,8 @@
 // A material slot's resolved texture name, and the cascade over the panes.
 use crate::check::check_book;
 use crate::readings::active_in;
+use laws::refusal::ACCEPTED;
+use laws::refusal::OUTPUT_LENGTH;
 use player::Player;
 ghost use mathlib.Core.Path.{_≡_};
 ghost use Rattle.player.specs.Keys.{keys};
@@ -45,14 +47,14 @@ fn cascade_refusal(
     ensures { λ n. ⌜ n ≡ checkBook (now (s .entry)) (now (b .entry)) p (keys (now (frames .entry)) (now (values .entry)) (now (slopes .entry))) (cascadeRest (now (b .entry)) (now (visible .entry)) (now (alpha .entry)) (now (influence .entry))) ⌝ }
 {
     let n = check_book(p, s, b, frames, values, slopes);
-    if n != 0 {
+    if n != ACCEPTED {
         return n;
     }
     let count = book::pane_count(b);
     if (visible.len() == count) & (alpha.len() == count) & (influence.len() == count) {
-        return 0;
+        return ACCEPTED;
     }
-    13
+    OUTPUT_LENGTH
 }
 
 // Each pane's visibility and alpha under its parents, and the influence that it hands its children. Refusals 1 to 5, 13.
@@ -70,7 +72,7 @@ pub fn cascade(
     ensures { λ n. ⌜ gaveRows n (now (visible .exit)) (now (alpha .exit)) (now (influence .exit)) ≡ cascadeOf (now (s .entry)) (now (b .entry)) p (keys (now (frames .entry)) (now (values .entry)) (now (slopes .entry))) (now (visible .entry)) (now (alpha .entry)) (now (influence .entry)) ⌝ }
 {
     let n = cascade_refusal(p, s, b, frames, values, slopes, visible, alpha, influence);
-    if n != 0 {
+    if n != ACCEPTED {
         return n;
     }
     resolve::cascade(
@@ -84,5 +86,5 @@ pub fn cascade(
         alpha,
         influence,
     );
-    0
+    ACCEPTED
 }

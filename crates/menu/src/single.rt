@@ -7,6 +7,10 @@ use crate::readings::active_in;
 use book::Srt;
 use book::Vector2;
 use book::Vector3;
+use channel::MATERIAL_CHANNELS;
+use channel::PANE_CHANNELS;
+use laws::refusal::ACCEPTED;
+use laws::refusal::NO_SUCH_ROW;
 use player::Player;
 use reading::Reading;
 use resolve::Transform;
@@ -28,7 +32,7 @@ pub fn read_pane(
     ensures { λ r. ⌜ r ≡ readPaneOf (now (s .entry)) (now (b .entry)) p (keys (now (frames .entry)) (now (values .entry)) (now (slopes .entry))) pane channel ⌝ }
 {
     let n = check_book(p, s, b, frames, values, slopes);
-    if n != 0 {
+    if n != ACCEPTED {
         return ReadOne {
             refusal: n,
             reading: Reading::Nothing,
@@ -36,15 +40,15 @@ pub fn read_pane(
     }
     let i = pane as usize;
     let c = channel as usize;
-    if !((i < book::pane_count(b)) & (c < 28)) {
+    if !((i < book::pane_count(b)) & (c < PANE_CHANNELS)) {
         return ReadOne {
-            refusal: 7,
+            refusal: NO_SUCH_ROW,
             reading: Reading::Nothing,
         };
     }
-    let at = i * 28 + c;
+    let at = channel::of_pane(i, c);
     ReadOne {
-        refusal: 0,
+        refusal: ACCEPTED,
         reading: reading::read_channel(s, b, frames, values, slopes, active_in(p), at),
     }
 }
@@ -63,7 +67,7 @@ pub fn read_material(
     ensures { λ r. ⌜ r ≡ readMaterialOf (now (s .entry)) (now (b .entry)) p (keys (now (frames .entry)) (now (values .entry)) (now (slopes .entry))) material channel ⌝ }
 {
     let n = check_book(p, s, b, frames, values, slopes);
-    if n != 0 {
+    if n != ACCEPTED {
         return ReadOne {
             refusal: n,
             reading: Reading::Nothing,
@@ -71,15 +75,15 @@ pub fn read_material(
     }
     let i = material as usize;
     let c = channel as usize;
-    if !((i < book::material_count(b)) & (c < 30)) {
+    if !((i < book::material_count(b)) & (c < MATERIAL_CHANNELS)) {
         return ReadOne {
-            refusal: 7,
+            refusal: NO_SUCH_ROW,
             reading: Reading::Nothing,
         };
     }
-    let at = book::pane_count(b) * 28 + i * 30 + c;
+    let at = channel::of_material(b, i, c);
     ReadOne {
-        refusal: 0,
+        refusal: ACCEPTED,
         reading: reading::read_channel(s, b, frames, values, slopes, active_in(p), at),
     }
 }
@@ -125,19 +129,19 @@ pub fn resolve_pane(
     ensures { λ r. ⌜ r ≡ resolvePaneOf (now (s .entry)) (now (b .entry)) p (keys (now (frames .entry)) (now (values .entry)) (now (slopes .entry))) pane ⌝ }
 {
     let n = check_book(p, s, b, frames, values, slopes);
-    if n != 0 {
+    if n != ACCEPTED {
         return no_pane(n);
     }
     let i = pane as usize;
     if !(i < book::pane_count(b)) {
-        return no_pane(7);
+        return no_pane(NO_SUCH_ROW);
     }
     let active = active_in(p);
     let visible = resolve::resolve_visible(s, b, frames, values, slopes, active, i);
     let alpha = resolve::resolve_alpha(s, b, frames, values, slopes, active, i);
     let transform = resolve::resolve_transform(s, b, frames, values, slopes, active, i);
     ResolvedPane {
-        refusal: 0,
+        refusal: ACCEPTED,
         visible,
         alpha,
         transform,
@@ -170,14 +174,17 @@ pub fn resolve_srt(
     ensures { λ r. ⌜ r ≡ resolveSrtOf (now (s .entry)) (now (b .entry)) p (keys (now (frames .entry)) (now (values .entry)) (now (slopes .entry))) material layer ⌝ }
 {
     let n = check_book(p, s, b, frames, values, slopes);
-    if n != 0 {
+    if n != ACCEPTED {
         return no_srt(n);
     }
     let i = material as usize;
     let k = layer as usize;
     if !((i < book::material_count(b)) & (k < 3)) {
-        return no_srt(7);
+        return no_srt(NO_SUCH_ROW);
     }
     let srt = resolve::resolve_srt(s, b, frames, values, slopes, active_in(p), i, k);
-    ResolvedSrt { refusal: 0, srt }
+    ResolvedSrt {
+        refusal: ACCEPTED,
+        srt,
+    }
 }

@@ -1,6 +1,9 @@
 // Undo and redo.
 use crate::check::check_keys;
 use crate::playing::Played;
+use laws::refusal::ACCEPTED;
+use laws::refusal::BROKEN_STATE;
+use laws::refusal::NOTHING_TO_TAKE;
 use player::Player;
 use player::edit::put_key;
 use player::edit::spot_of;
@@ -14,17 +17,17 @@ fn undo_refusal(p: Player, s: &[u8], frames: &[f32], values: &[f32], slopes: &[f
     ensures { λ n. ⌜ n ≡ checkKeys (now (s .entry)) p (keys (now (frames .entry)) (now (values .entry)) (now (slopes .entry))) (undoRefusal (now (s .entry)) p (keys (now (frames .entry)) (now (values .entry)) (now (slopes .entry)))) ⌝ }
 {
     let n = check_keys(p, s, frames, values, slopes);
-    if n != 0 {
+    if n != ACCEPTED {
         return n;
     }
     if p.reach == 0 {
-        return 11;
+        return NOTHING_TO_TAKE;
     }
     let e = p.undo_entry();
     if returns_ok(s, frames, values, slopes, e, e.after, e.before) {
-        return 0;
+        return ACCEPTED;
     }
-    5
+    BROKEN_STATE
 }
 
 // Takes the last standing edit back. Refusals 1, 3 to 5, 11.
@@ -38,7 +41,7 @@ pub fn undo(
     ensures { λ g. ⌜ gave g (keys (now (frames .exit)) (now (values .exit)) (now (slopes .exit))) ≡ undoOf (now (s .entry)) p (keys (now (frames .entry)) (now (values .entry)) (now (slopes .entry))) ⌝ }
 {
     let n = undo_refusal(p, s, frames, values, slopes);
-    if n != 0 {
+    if n != ACCEPTED {
         return Played {
             refusal: n,
             player: p,
@@ -48,7 +51,7 @@ pub fn undo(
     let spot = spot_of(s, e.track as usize, e.key);
     put_key(frames, values, slopes, spot.at, e.before);
     Played {
-        refusal: 0,
+        refusal: ACCEPTED,
         player: p.after_undo(),
     }
 }
@@ -57,17 +60,17 @@ fn redo_refusal(p: Player, s: &[u8], frames: &[f32], values: &[f32], slopes: &[f
     ensures { λ n. ⌜ n ≡ checkKeys (now (s .entry)) p (keys (now (frames .entry)) (now (values .entry)) (now (slopes .entry))) (redoRefusal (now (s .entry)) p (keys (now (frames .entry)) (now (values .entry)) (now (slopes .entry)))) ⌝ }
 {
     let n = check_keys(p, s, frames, values, slopes);
-    if n != 0 {
+    if n != ACCEPTED {
         return n;
     }
     if p.redo == 0 {
-        return 11;
+        return NOTHING_TO_TAKE;
     }
     let e = p.redo_entry();
     if returns_ok(s, frames, values, slopes, e, e.before, e.after) {
-        return 0;
+        return ACCEPTED;
     }
-    5
+    BROKEN_STATE
 }
 
 // Makes the edit that was undone last again. Refusals 1, 3 to 5, 11.
@@ -81,7 +84,7 @@ pub fn redo(
     ensures { λ g. ⌜ gave g (keys (now (frames .exit)) (now (values .exit)) (now (slopes .exit))) ≡ redoOf (now (s .entry)) p (keys (now (frames .entry)) (now (values .entry)) (now (slopes .entry))) ⌝ }
 {
     let n = redo_refusal(p, s, frames, values, slopes);
-    if n != 0 {
+    if n != ACCEPTED {
         return Played {
             refusal: n,
             player: p,
@@ -91,7 +94,7 @@ pub fn redo(
     let spot = spot_of(s, e.track as usize, e.key);
     put_key(frames, values, slopes, spot.at, e.after);
     Played {
-        refusal: 0,
+        refusal: ACCEPTED,
         player: p.after_redo(),
     }
 }

@@ -3,6 +3,10 @@ use curve::CONSTANT;
 use curve::HERMITE;
 use curve::Key;
 use curve::STEP;
+use laws::refusal::ACCEPTED;
+use laws::refusal::BAD_ARGUMENT;
+use laws::refusal::NOT_HERMITE;
+use laws::refusal::PAST_NEXT_KEY;
 ghost use mathlib.Core.Path.{_≡_};
 ghost use Prim.Native.Nat.{ℕ, _<_, _≤_};
 ghost use lib.ListN.{length, set};
@@ -163,12 +167,12 @@ fn key_refusal(frames: &[f32], p: Spot, x: f32, v: f32) -> u8
     ensures { λ r. ⌜ r ≡ requestRefusal (now (frames .entry)) p (Request.Key x v) ⌝ }
 {
     if !(float::is_finite(x) & float::is_finite(v)) {
-        return 8;
+        return BAD_ARGUMENT;
     }
     if overtakes(frames, p, x) {
-        return 9;
+        return PAST_NEXT_KEY;
     }
-    0
+    ACCEPTED
 }
 
 // Rows 8 and 10 of a slope edit.
@@ -176,12 +180,12 @@ fn slope_refusal(frames: &[f32], p: Spot, m: f32) -> u8
     ensures { λ r. ⌜ r ≡ requestRefusal (now (frames .entry)) p (Request.Slope m) ⌝ }
 {
     if !float::is_finite(m) {
-        return 8;
+        return BAD_ARGUMENT;
     }
     if p.curve != (HERMITE as usize) {
-        return 10;
+        return NOT_HERMITE;
     }
-    0
+    ACCEPTED
 }
 
 pub fn request_refusal(frames: &[f32], p: Spot, r: Request) -> u8

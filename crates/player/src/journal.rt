@@ -3,6 +3,9 @@ use curve::Key;
 ghost use mathlib.Core.Path.{_≡_};
 ghost use Rattle.player.specs.Journal.{rowOf, withRow, emptyJournal};
 
+// How many edits back an undo reaches.
+pub const ROWS: u64 = 128;
+
 pub struct Entry {
     pub track: u16,
     pub key: u16,
@@ -41,7 +44,7 @@ impl Journal {
     pub fn row(self, n: u64) -> Entry
         ensures { λ r. ⌜ r ≡ rowOf self n ⌝ }
     {
-        let i = (n % 128) as usize;
+        let i = (n % ROWS) as usize;
         let before = Key {
             frame: self.before_frame[i],
             value: self.before_value[i],
@@ -63,7 +66,7 @@ impl Journal {
     pub fn with_row(mut self, n: u64, e: Entry) -> Journal
         ensures { λ r. ⌜ r ≡ withRow self n e ⌝ }
     {
-        let i = (n % 128) as usize;
+        let i = (n % ROWS) as usize;
         self.track[i] = e.track;
         self.key[i] = e.key;
         self.before_frame[i] = e.before.frame;

@@ -3,6 +3,7 @@ use crate::NONE;
 use crate::Player;
 use crate::edit::has_key;
 use crate::journal::Journal;
+use crate::journal::ROWS;
 ghost use mathlib.Core.Path.{_≡_};
 ghost use Prim.Native.Nat.{_+_, _≤_, _<_, _^_};
 ghost use Rattle.laws.specs.Below.{allBelow};
@@ -20,7 +21,7 @@ impl Journal {
     {
         let mut i = 0;
         while i < n {
-            let at = ((first + i) % 128) as usize;
+            let at = ((first + i) % ROWS) as usize;
             if has_key(s, self.track[at], self.key[at]) {
                 i += 1;
             } else {
@@ -42,10 +43,10 @@ fn selection_ok(s: &[u8], selection: u16) -> bool
 fn counts_ok(reach: u64, redo: u64, accepted: u64, undone: u64, redone: u64, standing: u64) -> bool
     ensures { λ r. ⌜ r ≡ countsOk reach redo accepted undone redone standing ⌝ }
 {
-    if 128 < reach {
+    if ROWS < reach {
         return false;
     }
-    if 128 < redo {
+    if ROWS < redo {
         return false;
     }
     if MOST < accepted {
@@ -60,7 +61,7 @@ fn counts_ok(reach: u64, redo: u64, accepted: u64, undone: u64, redone: u64, sta
     if MOST < standing {
         return false;
     }
-    (reach + redo <= 128) & (reach <= standing) & (accepted + redone == undone + standing)
+    (reach + redo <= ROWS) & (reach <= standing) & (accepted + redone == undone + standing)
 }
 
 impl Player {

@@ -1,6 +1,7 @@
 // Undo and redo: the entry that each takes, and the journal and counts after an edit, an undo and a redo.
 use crate::Player;
 use crate::journal::Entry;
+use crate::journal::ROWS;
 use curve::Key;
 ghost use mathlib.Core.Path.{_≡_};
 ghost use Prim.Native.Nat.{_≤_, _<_, _^_};
@@ -73,8 +74,8 @@ fn one_more(reach: u64) -> u64
     requires { ⌜ reach ≤ 128 ⌝ }
     ensures { λ r. ⌜ r ≡ oneMore reach ⌝ }
 {
-    if reach < 128 {
+    if reach < ROWS {
         return reach + 1;
     }
-    128
+    ROWS
 }

@@ -2,8 +2,6 @@
 use reading::Active;
 ghost use mathlib.Core.Path.{_≡_};
 ghost use mathlib.Core.Bool.{true};
-ghost use Rattle.book.specs.Checked.{CheckedBook};
-ghost use Rattle.channel.specs.Channel.{channelCount};
 ghost use Rattle.reading.specs.Ready.{Ready};
 ghost use Rattle.probe.specs.Readable.{CanReadAll};
 
@@ -12,13 +10,6 @@ fn ready(s: &[u8], b: &[u8], frames: &[f32], values: &[f32], slopes: &[f32]) -> 
     ensures { λ r. ⌜ (r ≡ true → Ready (now (s .entry)) (now (b .entry)) (now (frames .entry)) (now (values .entry)) (now (slopes .entry))) ⌝ }
 {
     sheet::sheet_ok(s) & book::book_ok(b) & keys::keys_ok(s, frames, values, slopes)
-}
-
-fn channel_count(b: &[u8]) -> usize
-    requires { ⌜ CheckedBook (now b) ⌝ }
-    ensures { λ r. ⌜ r ≡ channelCount (now (b .entry)) ⌝ }
-{
-    book::pane_count(b) * 28 + book::material_count(b) * 30
 }
 
 // Nor does row 13.
@@ -36,7 +27,7 @@ fn can_read_all(
     if !ready(s, b, frames, values, slopes) {
         return false;
     }
-    let count = channel_count(b);
+    let count = channel::channel_count(b);
     (marks == count) & (numbers == count)
 }
 

@@ -22,7 +22,13 @@ fn last_target(s: &[u8], b: &[u8], a: usize, c: usize) -> Found
     let mut i = sheet::target_count(s);
     while 0 < i {
         let t = i - 1;
-        if hits(s, b, a, place, sheet::target_at(s, base + t * 14)) {
+        if hits(
+            s,
+            b,
+            a,
+            place,
+            sheet::target_at(s, base + t * sheet::TARGET_BYTES),
+        ) {
             return Found::At(t);
         }
         i = t;

@@ -72,7 +72,7 @@ fn sweep(
     let mut held = none_held();
     let mut next = 0;
     while next < n {
-        let row = sheet::target_at(s, base + next * 14);
+        let row = sheet::target_at(s, base + next * sheet::TARGET_BYTES);
         next += 1;
         if row.content != held.content {
             held = held_for(s, b, a, row.content);

@@ -106,7 +106,7 @@ fn sweep_own(
     let mut held = none_held();
     let mut next = 0;
     while next < n {
-        let row = sheet::target_at(s, base + next * 14);
+        let row = sheet::target_at(s, base + next * sheet::TARGET_BYTES);
         next += 1;
         let Found::At(k) = own_channel(row) else {
             continue;

@@ -1,5 +1,12 @@
 // Whether a slice of bytes is a sheet, its key rules apart: row 1 of the table of refusals.
 // A row's check has no early way out, so that its fields are read side by side; the loops over rows have one.
+use crate::rows::ANIMATION_BYTES;
+use crate::rows::CONTENT_BYTES;
+use crate::rows::HEAD;
+use crate::rows::KEY_BYTES;
+use crate::rows::NAME_BYTES;
+use crate::rows::ROW_NAME;
+use crate::rows::TARGET_BYTES;
 use field::byte_at;
 use field::u16_at;
 ghost use mathlib.Core.Path.{_≡_};
@@ -27,21 +34,21 @@ pub fn length_ok(s: &[u8]) -> bool
     ensures { λ r. ⌜ r ≡ lengthOk (now (s .entry)) ⌝ }
 {
     s.len()
-        == 12
-            + u16_at(s, 0) * 28
-            + u16_at(s, 2) * 28
-            + u16_at(s, 4) * 14
-            + u16_at(s, 8) * 24
-            + u16_at(s, 6) * 12
+        == HEAD
+            + u16_at(s, 0) * ANIMATION_BYTES
+            + u16_at(s, 2) * CONTENT_BYTES
+            + u16_at(s, 4) * TARGET_BYTES
+            + u16_at(s, 8) * NAME_BYTES
+            + u16_at(s, 6) * KEY_BYTES
 }
 
 fn animation_ok(s: &[u8], i: usize) -> bool
     requires { ⌜ 12 + i * 28 + 28 ≤ length (now s) ⌝ }
     ensures { λ r. ⌜ r ≡ animationOk (now (s .entry)) i ⌝ }
 {
-    let at = 12 + i * 28;
+    let at = HEAD + i * ANIMATION_BYTES;
     let next = byte_at(s, at + 3);
-    (byte_at(s, at + 2) <= 1) & (next <= 1) & ((next == 1) | field::empty_name(s, at + 4))
+    (byte_at(s, at + 2) <= 1) & (next <= 1) & ((next == 1) | field::empty_name(s, at + ROW_NAME))
 }
 
 fn animations_ok(s: &[u8], n: usize) -> bool
@@ -70,12 +77,12 @@ fn content_ok(s: &[u8], base: usize, a: usize, i: usize) -> bool
     requires { ⌜ base + i * 28 + 28 ≤ length (now s) ⌝ }
     ensures { λ r. ⌜ r ≡ contentOk (now (s .entry)) base a i ⌝ }
 {
-    let at = base + i * 28;
+    let at = base + i * CONTENT_BYTES;
     let own = byte_at(s, at);
     (byte_at(s, at + 1) <= 4)
         & (u16_at(s, at + 2) == 0)
         & (own < a)
-        & (byte_at(s, base + before(i) * 28) <= own)
+        & (byte_at(s, base + before(i) * CONTENT_BYTES) <= own)
 }
 
 fn contents_ok(s: &[u8], base: usize, a: usize, n: usize) -> bool
@@ -97,12 +104,12 @@ fn target_from(s: &[u8], base: usize, c: usize, i: usize, f: usize) -> bool
     requires { ⌜ base + i * 14 + 14 ≤ length (now s) ⌝ }
     ensures { λ r. ⌜ r ≡ targetFrom (now (s .entry)) base c i f ⌝ }
 {
-    let at = base + i * 14;
+    let at = base + i * TARGET_BYTES;
     let own = u16_at(s, at);
     (byte_at(s, at + 8) <= 2)
         & (byte_at(s, at + 9) == 0)
         & (own < c)
-        & (u16_at(s, base + before(i) * 14) <= own)
+        & (u16_at(s, base + before(i) * TARGET_BYTES) <= own)
         & (u16_at(s, at + 10) == f)
 }
 
@@ -115,7 +122,7 @@ fn targets_ok(s: &[u8], base: usize, c: usize, n: usize, k: usize) -> bool
     let mut i = 0;
     while i < n {
         if target_from(s, base, c, i, sum) {
-            sum += u16_at(s, base + i * 14 + 12);
+            sum += u16_at(s, base + i * TARGET_BYTES + 12);
             i += 1;
         } else {
             return false;
@@ -128,7 +135,7 @@ fn targets_ok(s: &[u8], base: usize, c: usize, n: usize, k: usize) -> bool
 pub fn sheet_ok(s: &[u8]) -> bool
     ensures { λ r. ⌜ r ≡ sheetOk (now (s .entry)) ⌝ }
 {
-    if s.len() < 12 {
+    if s.len() < HEAD {
         return false;
     }
     if !sizes_ok(s) {
@@ -140,8 +147,8 @@ pub fn sheet_ok(s: &[u8]) -> bool
     let a = u16_at(s, 0);
     let c = u16_at(s, 2);
     let t = u16_at(s, 4);
-    let contents = 12 + a * 28;
-    let targets = contents + c * 28;
+    let contents = HEAD + a * ANIMATION_BYTES;
+    let targets = contents + c * CONTENT_BYTES;
     animations_ok(s, a)
         & contents_ok(s, contents, a, c)
         & targets_ok(s, targets, c, t, u16_at(s, 6))

@@ -9,6 +9,23 @@ ghost use Rattle.sheet.specs.Sizes.{animationCount, contentCount, target
 ghost use Rattle.sheet.specs.Rows.{animationRow, contentRow, targetAt, targetRow, nextName, contentName, textureName};
 ghost use Rattle.sheet.specs.Checked.{Checked};
 
+// How many bytes the sizes take, and each row.
+pub const HEAD: usize = 12;
+
+pub const ANIMATION_BYTES: usize = 28;
+
+pub const CONTENT_BYTES: usize = 28;
+
+pub const TARGET_BYTES: usize = 14;
+
+pub const NAME_BYTES: usize = 24;
+
+// A key's frame, and its point.
+pub const KEY_BYTES: usize = 12;
+
+// Where the name stands in an animation's row and in a content's.
+pub const ROW_NAME: usize = 4;
+
 pub struct Animation {
     pub frames: u16,
     pub looping: bool,
@@ -71,21 +88,24 @@ pub fn contents_at(s: &[u8]) -> usize
     requires { ⌜ 12 ≤ length (now s) ⌝ }
     ensures { λ r. ⌜ r ≡ contentsAt (now (s .entry)) ⌝ }
 {
-    12 + u16_at(s, 0) * 28
+    HEAD + u16_at(s, 0) * ANIMATION_BYTES
 }
 
 pub fn targets_at(s: &[u8]) -> usize
     requires { ⌜ 12 ≤ length (now s) ⌝ }
     ensures { λ r. ⌜ r ≡ targetsAt (now (s .entry)) ⌝ }
 {
-    12 + u16_at(s, 0) * 28 + u16_at(s, 2) * 28
+    HEAD + u16_at(s, 0) * ANIMATION_BYTES + u16_at(s, 2) * CONTENT_BYTES
 }
 
 pub fn textures_at(s: &[u8]) -> usize
     requires { ⌜ 12 ≤ length (now s) ⌝ }
     ensures { λ r. ⌜ r ≡ texturesAt (now (s .entry)) ⌝ }
 {
-    12 + u16_at(s, 0) * 28 + u16_at(s, 2) * 28 + u16_at(s, 4) * 14
+    HEAD
+        + u16_at(s, 0) * ANIMATION_BYTES
+        + u16_at(s, 2) * CONTENT_BYTES
+        + u16_at(s, 4) * TARGET_BYTES
 }
 
 // ---- rows
@@ -94,7 +114,7 @@ pub fn animation_row(s: &[u8], i: usize) -> Animation
     requires { ⌜ Checked (now s) × (i < animationCount (now s)) ⌝ }
     ensures { λ r. ⌜ r ≡ animationRow (now (s .entry)) i ⌝ }
 {
-    let at = 12 + i * 28;
+    let at = HEAD + i * ANIMATION_BYTES;
     Animation {
         frames: u16_at(s, at) as u16,
         looping: byte_at(s, at + 2) == 1,
@@ -106,7 +126,7 @@ pub fn content_row(s: &[u8], i: usize) -> Content
     requires { ⌜ Checked (now s) × (i < contentCount (now s)) ⌝ }
     ensures { λ r. ⌜ r ≡ contentRow (now (s .entry)) i ⌝ }
 {
-    let at = contents_at(s) + i * 28;
+    let at = contents_at(s) + i * CONTENT_BYTES;
     Content {
         animation: byte_at(s, at),
         kind: byte_at(s, at + 1),
@@ -133,7 +153,7 @@ pub fn target_row(s: &[u8], i: usize) -> Target
     requires { ⌜ Checked (now s) × (i < targetCount (now s)) ⌝ }
     ensures { λ r. ⌜ r ≡ targetRow (now (s .entry)) i ⌝ }
 {
-    target_at(s, targets_at(s) + i * 14)
+    target_at(s, targets_at(s) + i * TARGET_BYTES)
 }
 
 // ---- names
@@ -142,19 +162,19 @@ pub fn next_name<'a>(s: &'a [u8], i: usize) -> &'a [u8]
     requires { ⌜ Checked (now s) × (i < animationCount (now s)) ⌝ }
     ensures { λ r. ⌜ now r ≡ nextName (now (s .entry)) i ⌝ }
 {
-    field::name_at(s, 12 + i * 28 + 4)
+    field::name_at(s, HEAD + i * ANIMATION_BYTES + ROW_NAME)
 }
 
 pub fn content_name<'a>(s: &'a [u8], i: usize) -> &'a [u8]
     requires { ⌜ Checked (now s) × (i < contentCount (now s)) ⌝ }
     ensures { λ r. ⌜ now r ≡ contentName (now (s .entry)) i ⌝ }
 {
-    field::name_at(s, contents_at(s) + i * 28 + 4)
+    field::name_at(s, contents_at(s) + i * CONTENT_BYTES + ROW_NAME)
 }
 
 pub fn texture_name<'a>(s: &'a [u8], i: usize) -> &'a [u8]
     requires { ⌜ Checked (now s) × (i < textureCount (now s)) ⌝ }
     ensures { λ r. ⌜ now r ≡ textureName (now (s .entry)) i ⌝ }
 {
-    field::name_at(s, textures_at(s) + i * 24)
+    field::name_at(s, textures_at(s) + i * NAME_BYTES)
 }
