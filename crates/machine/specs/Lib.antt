@@ -2,3 +2,4 @@ pub mod Runs
 pub mod Asks
 pub mod Calls
 pub mod Plain
+pub mod Table
