@@ -18,6 +18,12 @@ pub enum Reading {
 }
 
 /// The whole reading of a book: a mark (0 or 1) and a number for each channel, panes first.
+///
+/// ```
+/// let all = dovebolt::Channels { marks: vec![1, 0], numbers: vec![2.5, 0.0] };
+/// assert_eq!(all.get(0), Some(2.5));
+/// assert_eq!(all.get(1), None);
+/// ```
 #[derive(Clone, Debug, PartialEq)]
 pub struct Channels {
     pub marks: Vec<u8>,

@@ -5,6 +5,7 @@
 //! takes the sheet's keys out of it. What a call declines it declines by a [`Refusal`], and then nothing has changed.
 
 mod channels;
+pub mod example;
 mod formats;
 mod keys;
 mod player;

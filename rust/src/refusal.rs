@@ -1,6 +1,15 @@
 use std::fmt;
 
 /// Why a call was declined. Nothing that was lent has changed.
+///
+/// ```
+/// use dovebolt::{Player, Refusal};
+///
+/// let refusal = Player::load(b"no sheet").unwrap_err();
+/// assert_eq!(refusal, Refusal::Sheet);
+/// assert_eq!(refusal.number(), 1);
+/// assert_eq!(refusal.to_string(), "refusal 1: the sheet breaks its layout (key rules apart)");
+/// ```
 #[repr(u8)]
 #[derive(Clone, Copy, Debug, PartialEq, Eq, Hash, PartialOrd, Ord)]
 pub enum Refusal {
@@ -38,12 +47,25 @@ impl Refusal {
     ];
 
     /// The refusal of this number, which is 1 to 13.
+    ///
+    /// ```
+    /// use dovebolt::Refusal;
+    ///
+    /// assert_eq!(Refusal::from_number(12), Some(Refusal::Angle));
+    /// assert_eq!(Refusal::from_number(14), None);
+    /// ```
     pub fn from_number(number: u8) -> Option<Refusal> {
         let row = usize::from(number).checked_sub(1)?;
         Refusal::ALL.get(row).copied()
     }
 
     /// The refusal's number in the table.
+    ///
+    /// ```
+    /// use dovebolt::Refusal;
+    ///
+    /// assert_eq!(Refusal::Angle.number(), 12);
+    /// ```
     pub fn number(self) -> u8 {
         self as u8
     }
