@@ -1,3 +1,4 @@
+use crate::answers::Tick;
 use crate::keys::Keys;
 use crate::raw::{self, NONE};
 use crate::refusal::{Refusal, checked};
@@ -22,32 +23,6 @@ macro_rules! on_keys {
             )
         }
     }};
-}
-
-/// What a tick came to.
-///
-/// ```
-/// use dovebolt::{Player, Tick, example, next_name};
-///
-/// let sheet = example::sheet();
-/// let (mut player, _) = Player::load(&sheet)?;
-/// assert_eq!(player.tick(&sheet, 0.5, 8.0)?, Tick::Idle);
-/// player.play(&sheet, Some(0))?;
-/// assert_eq!(player.tick(&sheet, 0.5, 8.0)?, Tick::Running);
-/// assert_eq!(player.tick(&sheet, 0.5, 8.0)?, Tick::Next);
-/// assert_eq!(next_name(&sheet, 0)?.text(), "Idle");
-/// # Ok::<(), dovebolt::Refusal>(())
-/// ```
-#[derive(Clone, Copy, Debug, PartialEq, Eq, Hash)]
-pub enum Tick {
-    /// Nothing is selected, or it does not play: nothing moved.
-    Idle,
-    /// The animation goes on.
-    Running,
-    /// The animation ended.
-    Ended,
-    /// The animation ended and names the one that comes next: [`crate::next_name`].
-    Next,
 }
 
 /// What is selected and shown, and the journal of the edits that can be undone and redone.

@@ -1,6 +1,6 @@
 //! The readings: what the active animation makes of a book's panes and materials.
 
-use crate::channels::{Cascaded, Channels, Reading, ResolvedPane, Srt, Transform};
+use crate::answers::{Cascaded, Channels, Reading, ResolvedPane, Srt, Transform};
 use crate::formats::{Name, channel_count, pane_count};
 use crate::keys::Keys;
 use crate::player::Player;

@@ -330,10 +330,10 @@ fn uvs() {
     // Layers with numbers of their own, and none transformed.
     let layers: Vec<f32> = (0..24).map(|n| n as f32).collect();
     let block = dovebolt::uvs(&layers, &[]).unwrap();
-    for corner in 0..4 {
-        for layer in 0..3 {
-            let at = (layer * 8 + corner * 2) as f32;
-            assert_eq!(block[corner][layer], [at, at + 1.0]);
+    for (v, corner) in block.iter().enumerate() {
+        for (l, pair) in corner.iter().enumerate() {
+            let at = (l * 8 + v * 2) as f32;
+            assert_eq!(*pair, [at, at + 1.0]);
         }
     }
     let mut flat = [0.0; 24];
