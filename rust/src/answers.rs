@@ -1,0 +1,160 @@
+//! What calls answer.
+
+use crate::raw::{Vector2f, Vector3f};
+
+/// What a tick came to.
+///
+/// ```
+/// use dovebolt::{Player, Tick, example, next_name};
+///
+/// let sheet = example::sheet();
+/// let (mut player, _) = Player::load(&sheet)?;
+/// assert_eq!(player.tick(&sheet, 0.5, 8.0)?, Tick::Idle);
+/// player.play(&sheet, Some(0))?;
+/// assert_eq!(player.tick(&sheet, 0.5, 8.0)?, Tick::Running);
+/// assert_eq!(player.tick(&sheet, 0.5, 8.0)?, Tick::Next);
+/// assert_eq!(next_name(&sheet, 0)?.text(), "Idle");
+/// # Ok::<(), dovebolt::Refusal>(())
+/// ```
+#[derive(Clone, Copy, Debug, PartialEq, Eq, Hash)]
+pub enum Tick {
+    /// Nothing is selected, or it does not play: nothing moved.
+    Idle,
+    /// The animation goes on.
+    Running,
+    /// The animation ended.
+    Ended,
+    /// The animation ended and names the one that comes next: [`crate::next_name`].
+    Next,
+}
+
+/// What one channel reads.
+///
+/// ```
+/// use dovebolt::{Player, Reading, example};
+///
+/// let (sheet, book) = (example::sheet(), example::book());
+/// let (mut player, keys) = Player::load(&sheet)?;
+/// player.pose(&sheet, Some(0), 4.0)?;
+/// match player.read_pane(&sheet, &book, &keys, 1, 0)? {
+///     Reading::Number(x) => assert_eq!(x, 8.0),
+///     other => panic!("{other:?}"),
+/// }
+/// # Ok::<(), dovebolt::Refusal>(())
+/// ```
+#[derive(Clone, Copy, Debug, PartialEq)]
+pub enum Reading {
+    /// No override.
+    Nothing,
+    /// A number.
+    Number(f32),
+    /// Shown or hidden.
+    Shown(bool),
+    /// A row of the sheet's texture names.
+    Row(u16),
+    /// A colour's level.
+    Level(u8),
+}
+
+/// The whole reading of a book: a mark (0 or 1) and a number for each channel, panes first.
+///
+/// ```
+/// let all = dovebolt::Channels { marks: vec![1, 0], numbers: vec![2.5, 0.0] };
+/// assert_eq!(all.get(0), Some(2.5));
+/// assert_eq!(all.get(1), None);
+/// ```
+#[derive(Clone, Debug, PartialEq)]
+pub struct Channels {
+    pub marks: Vec<u8>,
+    pub numbers: Vec<f32>,
+}
+
+impl Channels {
+    /// The number of a channel that is overridden.
+    ///
+    /// ```
+    /// let all = dovebolt::Channels { marks: vec![1, 0], numbers: vec![0.0, 0.0] };
+    /// assert_eq!((all.get(0), all.get(1), all.get(2)), (Some(0.0), None, None));
+    /// ```
+    pub fn get(&self, channel: usize) -> Option<f32> {
+        let mark = *self.marks.get(channel)?;
+        (mark == 1).then(|| self.numbers[channel])
+    }
+}
+
+/// A pane's place: the override, or else the book's.
+///
+/// ```
+/// use dovebolt::{Player, example};
+///
+/// let (sheet, book) = (example::sheet(), example::book());
+/// let (mut player, keys) = Player::load(&sheet)?;
+/// player.pose(&sheet, Some(0), 4.0)?;
+/// let place = player.resolve_pane(&sheet, &book, &keys, 1)?.transform;
+/// assert_eq!((place.translation.x, place.rotation.z, place.scale.y, place.size.x), (8.0, 6.0, 8.0, 9.0));
+/// # Ok::<(), dovebolt::Refusal>(())
+/// ```
+#[derive(Clone, Copy, Debug, Default, PartialEq)]
+pub struct Transform {
+    pub translation: Vector3f,
+    pub rotation: Vector3f,
+    pub scale: Vector2f,
+    pub size: Vector2f,
+}
+
+/// A pane with its overrides.
+///
+/// ```
+/// use dovebolt::{Player, example};
+///
+/// let (sheet, book) = (example::sheet(), example::book());
+/// let (mut player, keys) = Player::load(&sheet)?;
+/// player.pose(&sheet, Some(0), 4.0)?;
+/// let logo = player.resolve_pane(&sheet, &book, &keys, 1)?;
+/// assert_eq!((logo.visible, logo.alpha), (true, 0.2));
+/// # Ok::<(), dovebolt::Refusal>(())
+/// ```
+#[derive(Clone, Copy, Debug, PartialEq)]
+pub struct ResolvedPane {
+    pub visible: bool,
+    pub alpha: f32,
+    pub transform: Transform,
+}
+
+/// A material layer's texture transform with its overrides.
+///
+/// ```
+/// use dovebolt::{Player, Srt, example};
+///
+/// let (sheet, book) = (example::sheet(), example::book());
+/// let (mut player, keys) = Player::load(&sheet)?;
+/// player.pose(&sheet, Some(0), 4.0)?;
+/// let Srt { translate, rotate, scale } = player.resolve_srt(&sheet, &book, &keys, 0, 0)?;
+/// assert_eq!((translate.x, translate.y, rotate, scale.x, scale.y), (1.0, 2.0, 3.0, 4.0, 5.0));
+/// # Ok::<(), dovebolt::Refusal>(())
+/// ```
+#[derive(Clone, Copy, Debug, Default, PartialEq)]
+pub struct Srt {
+    pub translate: Vector2f,
+    pub rotate: f32,
+    pub scale: Vector2f,
+}
+
+/// A pane under its parents, and the influence that it hands its children.
+///
+/// ```
+/// use dovebolt::{Player, example};
+///
+/// let (sheet, book) = (example::sheet(), example::book());
+/// let (mut player, keys) = Player::load(&sheet)?;
+/// player.pose(&sheet, Some(0), 4.0)?;
+/// let logo = player.cascade(&sheet, &book, &keys)?[1];
+/// assert_eq!((logo.visible, logo.alpha, logo.influence), (true, 0.2, 0.2));
+/// # Ok::<(), dovebolt::Refusal>(())
+/// ```
+#[derive(Clone, Copy, Debug, PartialEq)]
+pub struct Cascaded {
+    pub visible: bool,
+    pub alpha: f32,
+    pub influence: f32,
+}
