@@ -1,4 +1,8 @@
 // Names, which the calls of `menu` hand back as a part of the sheet or of the book, copied into a lent output.
+use laws::refusal::ACCEPTED;
+use laws::refusal::NO_ANIMATION;
+use laws::refusal::OUTPUT_LENGTH;
+use laws::refusal::SHEET_LAYOUT;
 use player::Player;
 ghost use mathlib.Core.Path.{_≡_};
 ghost use lib.ListN.{length};
@@ -14,22 +18,22 @@ fn hand_out(name: &[u8], out: &mut [u8]) -> u8
     ensures { λ r. ⌜ gaveName r (now (out .exit)) ≡ nameInto 0 (now (name .entry)) (now (out .entry)) ⌝ }
 {
     if out.len() != NAME {
-        return 13;
+        return OUTPUT_LENGTH;
     }
     bytes::copy(name, out);
-    0
+    ACCEPTED
 }
 
 fn next_refusal(s: &[u8], animation: u16) -> u8
     ensures { λ r. ⌜ r ≡ nextRefusal (now (s .entry)) animation ⌝ }
 {
     if !sheet::sheet_ok(s) {
-        return 1;
+        return SHEET_LAYOUT;
     }
     if (animation as usize) < sheet::animation_count(s) {
-        return 0;
+        return ACCEPTED;
     }
-    6
+    NO_ANIMATION
 }
 
 // The name that follows an animation, into 24 bytes: all zero where it has none. Refusals 1, 6, 13.
@@ -38,7 +42,7 @@ pub extern "C" fn menu_next_name(sheet: &[u8], animation: u16, out: &mut [u8]) -
     ensures { λ r. ⌜ gaveName r (now (out .exit)) ≡ nextNameInto (now (sheet .entry)) animation (now (out .entry)) ⌝ }
 {
     let n = next_refusal(sheet, animation);
-    if n != 0 {
+    if n != ACCEPTED {
         return n;
     }
     hand_out(menu::next_name(sheet, animation), out)
@@ -77,7 +81,7 @@ pub extern "C" fn menu_texture_name<'a>(
     ensures { λ r. ⌜ gaveName r (now (out .exit)) ≡ textureNameInto (now (sheet .entry)) (now (book .entry)) player (keys (now (frames .entry)) (now (values .entry)) (now (slopes .entry))) material slot (now (out .entry)) ⌝ }
 {
     let n = slot_refusal(player, sheet, book, frames, values, slopes, material, slot);
-    if n != 0 {
+    if n != ACCEPTED {
         return n;
     }
     hand_out(
