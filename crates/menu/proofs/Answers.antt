@@ -10,7 +10,7 @@ use lib.ListN.{length, take, drop}
 use lib.Ieee.{Float}
 use Rattle.laws.specs.Refusals.{unless, passed}
 use Rattle.laws.specs.Tests.{and-1, and-2}
-use Rattle.channel.specs.Channel.{channelCount}
+use Rattle.channel.specs.Channel.{channelCount, ofPane, ofMaterial}
 use Rattle.reading.specs.Reading.{marksOf, numbersOf}
 use Rattle.reading.specs.declared.Active.{Active}
 use Rattle.reading.specs.declared.Active.the-variants as active
@@ -120,13 +120,13 @@ pub both-below : (i p c l : ℕ) → (ltb i p && ltb c l) ≡ true → (i < p) �
 both-below i p c l e = (ltb-true i p (and-1 (ltb i p) (ltb c l) e), ltb-true c l (and-2 (ltb i p) (ltb c l) e))
 
 -- a channel of a pane, and of a material, is one of the book's
-pub pane-within : (b : List ℕ) (i c : ℕ) → (i < paneCount b) × (c < 28) → i * 28 + c < channelCount b
-unfolding channelCount
-pane-within b i c h = omega arith
+pub pane-within : (b : List ℕ) (i c at : ℕ) → at ≡ ofPane i c → (i < paneCount b) × (c < 28) → at < channelCount b
+unfolding channelCount ofPane
+pane-within b i c at e h = omega arith
 
-pub material-within : (b : List ℕ) (q i c : ℕ) → q ≡ paneCount b → (i < materialCount b) × (c < 30) → q * 28 + i * 30 + c < channelCount b
-unfolding channelCount
-material-within b q i c e h = omega arith
+pub material-within : (b : List ℕ) (i c at : ℕ) → at ≡ ofMaterial b i c → (i < materialCount b) × (c < 30) → at < channelCount b
+unfolding channelCount ofMaterial
+material-within b i c at e h = omega arith
 
 -- one test likewise
 pub one-no : (i : ℕ) {k p : ℕ} → k ≡ p → not (ltb i k) ≡ true → ltb i p ≡ false

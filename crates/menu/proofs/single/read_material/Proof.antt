@@ -3,7 +3,6 @@ use native.Mathlib.Omega.{arith}
 use Rattle.laws.specs.Refusals.{stop, skip}
 use Rattle.menu.proofs.Checks.{book-stop, book-go, book-ready}
 use Rattle.menu.specs.Readings.{readMaterialOf, materialChannelRest}
-use Rattle.channel.specs.Channel.{ofMaterial}
 use Rattle.menu.proofs.Answers.{one-refused, one-made, in-no, in-yes, both-below, material-within, seven}
 use borrow.Author.Needs.{needs}
 use Rattle.menu.proofs.single.read_material.Statement.{statement}
@@ -23,30 +22,19 @@ returns-2 : tie.Need-returns-2
 unfolding readMaterialOf materialChannelRest
 returns-2 c = one-refused (book-go _ _ _ _ _ (c .before .before .before .check-book .ensures) (c .before .before .if1 .left) (stop _ 7 _ (in-no (c .before .before .before .before .before .before .before .before .before .args .material) (c .before .before .before .before .before .before .before .before .before .args .channel) 30 (c .before .material-count .ensures) (c .if2 .taken)))) _ seven
 
-pane-count-requires : tie.Need-pane-count-requires
-pane-count-requires c κs = (let w = book-ready _ _ _ _ 0 (c .before .before .before .check-book .ensures) (c .before .before .if1 .left) .ready .book in omega arith)
-
-mul-at : tie.Need-mul-at
-mul-at c = (let w = book-ready _ _ _ _ 0 (c .before .before .before .before .check-book .ensures) (c .before .before .before .if1 .left) .ready .book in let h = both-below (c .before .before .before .before .before .before .before .before .before .before .args .material) _ (c .before .before .before .before .before .before .before .before .before .before .args .channel) 30 (in-yes (c .before .before .before .before .before .before .before .before .before .before .args .material) (c .before .before .before .before .before .before .before .before .before .before .args .channel) 30 (c .before .before .material-count .ensures) (c .before .if2 .left)) in omega arith)
-
-mul-at-2 : tie.Need-mul-at-2
-mul-at-2 c = search needs
-
-add-at : tie.Need-add-at
-add-at c = (let w = book-ready _ _ _ _ 0 (c .before .before .before .before .check-book .ensures) (c .before .before .before .if1 .left) .ready .book in let h = both-below (c .before .before .before .before .before .before .before .before .before .before .args .material) _ (c .before .before .before .before .before .before .before .before .before .before .args .channel) 30 (in-yes (c .before .before .before .before .before .before .before .before .before .before .args .material) (c .before .before .before .before .before .before .before .before .before .before .args .channel) 30 (c .before .before .material-count .ensures) (c .before .if2 .left)) in omega arith)
-
-add-at-2 : tie.Need-add-at-2
-add-at-2 c = (let w = book-ready _ _ _ _ 0 (c .before .before .before .before .check-book .ensures) (c .before .before .before .if1 .left) .ready .book in let h = both-below (c .before .before .before .before .before .before .before .before .before .before .args .material) _ (c .before .before .before .before .before .before .before .before .before .before .args .channel) 30 (in-yes (c .before .before .before .before .before .before .before .before .before .before .args .material) (c .before .before .before .before .before .before .before .before .before .before .args .channel) 30 (c .before .before .material-count .ensures) (c .before .if2 .left)) in omega arith)
+-- the row and the channel are the book's
+of-material-requires : tie.Need-of-material-requires
+of-material-requires c κs = (book-ready _ _ _ _ 0 (c .before .before .before .check-book .ensures) (c .before .before .if1 .left) .ready .book, (both-below (c .before .before .before .before .before .before .before .before .before .args .material) _ (c .before .before .before .before .before .before .before .before .before .args .channel) 30 (in-yes (c .before .before .before .before .before .before .before .before .before .args .material) (c .before .before .before .before .before .before .before .before .before .args .channel) 30 (c .before .material-count .ensures) (c .if2 .left))))
 
 active-in-requires : tie.Need-active-in-requires
 active-in-requires c κs = search needs
 
 read-channel-requires : tie.Need-read-channel-requires
-read-channel-requires c κs = (book-ready _ _ _ _ 0 (c .before .before .before .before .before .check-book .ensures) (c .before .before .before .before .if1 .left) .ready, material-within _ _ _ _ (c .before .pane-count .ensures) (both-below (c .before .before .before .before .before .before .before .before .before .before .before .args .material) _ (c .before .before .before .before .before .before .before .before .before .before .before .args .channel) 30 (in-yes (c .before .before .before .before .before .before .before .before .before .before .before .args .material) (c .before .before .before .before .before .before .before .before .before .before .before .args .channel) 30 (c .before .before .before .material-count .ensures) (c .before .before .if2 .left))))
+read-channel-requires c κs = (book-ready _ _ _ _ 0 (c .before .before .before .before .before .check-book .ensures) (c .before .before .before .before .if1 .left) .ready, material-within _ _ _ _ (c .before .of-material .ensures) (both-below (c .before .before .before .before .before .before .before .before .before .before .before .args .material) _ (c .before .before .before .before .before .before .before .before .before .before .before .args .channel) 30 (in-yes (c .before .before .before .before .before .before .before .before .before .before .before .args .material) (c .before .before .before .before .before .before .before .before .before .before .before .args .channel) 30 (c .before .before .before .material-count .ensures) (c .before .before .if2 .left))))
 
 returns-3 : tie.Need-returns-3
-unfolding readMaterialOf materialChannelRest ofMaterial
-returns-3 c = one-made (book-go _ _ _ _ _ (c .before .before .before .before .before .before .check-book .ensures) (c .before .before .before .before .before .if1 .left) (skip _ 7 _ 0 (in-yes (c .before .before .before .before .before .before .before .before .before .before .before .before .args .material) (c .before .before .before .before .before .before .before .before .before .before .before .before .args .channel) 30 (c .before .before .before .before .material-count .ensures) (c .before .before .before .if2 .left)) refl)) (rw (← c .before .active-in .ensures, ← c .before .before .pane-count .ensures) (c .read-channel .ensures))
+unfolding readMaterialOf materialChannelRest
+returns-3 c = one-made (book-go _ _ _ _ _ (c .before .before .before .before .before .before .check-book .ensures) (c .before .before .before .before .before .if1 .left) (skip _ 7 _ 0 (in-yes (c .before .before .before .before .before .before .before .before .before .before .before .before .args .material) (c .before .before .before .before .before .before .before .before .before .before .before .before .args .channel) 30 (c .before .before .before .before .material-count .ensures) (c .before .before .before .if2 .left)) refl)) (rw (← c .before .active-in .ensures, ← c .before .before .of-material .ensures) (c .read-channel .ensures))
 
 pub read-material-spec : {M : Type 1} → statement M
 read-material-spec =
@@ -56,11 +44,7 @@ read-material-spec =
     returns
     material-count-requires
     returns-2
-    pane-count-requires
-    mul-at
-    mul-at-2
-    add-at
-    add-at-2
+    of-material-requires
     active-in-requires
     read-channel-requires
     returns-3)

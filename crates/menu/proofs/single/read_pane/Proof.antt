@@ -3,7 +3,6 @@ use native.Mathlib.Omega.{arith}
 use Rattle.laws.specs.Refusals.{stop, skip}
 use Rattle.menu.proofs.Checks.{book-stop, book-go, book-ready}
 use Rattle.menu.specs.Readings.{readPaneOf, paneChannelRest}
-use Rattle.channel.specs.Channel.{ofPane}
 use Rattle.menu.proofs.Answers.{one-refused, one-made, in-no, in-yes, both-below, pane-within, seven}
 use borrow.Author.Needs.{needs}
 use Rattle.menu.proofs.single.read_pane.Statement.{statement}
@@ -23,21 +22,19 @@ returns-2 : tie.Need-returns-2
 unfolding readPaneOf paneChannelRest
 returns-2 c = one-refused (book-go _ _ _ _ _ (c .before .before .before .check-book .ensures) (c .before .before .if1 .left) (stop _ 7 _ (in-no (c .before .before .before .before .before .before .before .before .before .args .pane) (c .before .before .before .before .before .before .before .before .before .args .channel) 28 (c .before .pane-count .ensures) (c .if2 .taken)))) _ seven
 
-mul-at : tie.Need-mul-at
-mul-at c = search needs
-
-add-at : tie.Need-add-at
-add-at c = search needs
+-- the row and the channel are the book's
+of-pane-requires : tie.Need-of-pane-requires
+of-pane-requires c κs = let w = book-ready _ _ _ _ 0 (c .before .before .before .check-book .ensures) (c .before .before .if1 .left) .ready .book in let h = (both-below (c .before .before .before .before .before .before .before .before .before .args .pane) _ (c .before .before .before .before .before .before .before .before .before .args .channel) 28 (in-yes (c .before .before .before .before .before .before .before .before .before .args .pane) (c .before .before .before .before .before .before .before .before .before .args .channel) 28 (c .before .pane-count .ensures) (c .if2 .left))) in (omega arith, h .1)
 
 active-in-requires : tie.Need-active-in-requires
 active-in-requires c κs = search needs
 
 read-channel-requires : tie.Need-read-channel-requires
-read-channel-requires c κs = (book-ready _ _ _ _ 0 (c .before .before .before .before .check-book .ensures) (c .before .before .before .if1 .left) .ready, pane-within _ _ _ (both-below (c .before .before .before .before .before .before .before .before .before .before .args .pane) _ (c .before .before .before .before .before .before .before .before .before .before .args .channel) 28 (in-yes (c .before .before .before .before .before .before .before .before .before .before .args .pane) (c .before .before .before .before .before .before .before .before .before .before .args .channel) 28 (c .before .before .pane-count .ensures) (c .before .if2 .left))))
+read-channel-requires c κs = (book-ready _ _ _ _ 0 (c .before .before .before .before .before .check-book .ensures) (c .before .before .before .before .if1 .left) .ready, pane-within _ _ _ _ (c .before .of-pane .ensures) (both-below (c .before .before .before .before .before .before .before .before .before .before .before .args .pane) _ (c .before .before .before .before .before .before .before .before .before .before .before .args .channel) 28 (in-yes (c .before .before .before .before .before .before .before .before .before .before .before .args .pane) (c .before .before .before .before .before .before .before .before .before .before .before .args .channel) 28 (c .before .before .before .pane-count .ensures) (c .before .before .if2 .left))))
 
 returns-3 : tie.Need-returns-3
-unfolding readPaneOf paneChannelRest ofPane
-returns-3 c = one-made (book-go _ _ _ _ _ (c .before .before .before .before .before .check-book .ensures) (c .before .before .before .before .if1 .left) (skip _ 7 _ 0 (in-yes (c .before .before .before .before .before .before .before .before .before .before .before .args .pane) (c .before .before .before .before .before .before .before .before .before .before .before .args .channel) 28 (c .before .before .before .pane-count .ensures) (c .before .before .if2 .left)) refl)) (rw (← c .before .active-in .ensures) (c .read-channel .ensures))
+unfolding readPaneOf paneChannelRest
+returns-3 c = one-made (book-go _ _ _ _ _ (c .before .before .before .before .before .before .check-book .ensures) (c .before .before .before .before .before .if1 .left) (skip _ 7 _ 0 (in-yes (c .before .before .before .before .before .before .before .before .before .before .before .before .args .pane) (c .before .before .before .before .before .before .before .before .before .before .before .before .args .channel) 28 (c .before .before .before .before .pane-count .ensures) (c .before .before .before .if2 .left)) refl)) (rw (← c .before .active-in .ensures, ← c .before .before .of-pane .ensures) (c .read-channel .ensures))
 
 pub read-pane-spec : {M : Type 1} → statement M
 read-pane-spec =
@@ -47,8 +44,7 @@ read-pane-spec =
     returns
     pane-count-requires
     returns-2
-    mul-at
-    add-at
+    of-pane-requires
     active-in-requires
     read-channel-requires
     returns-3)
