@@ -9,7 +9,8 @@ pub fn case(random: &mut Random) -> Case {
     let size = books::size(random);
     let book = books::book(random, size);
     let size = good::size(random);
-    let sheet = good::sheet(random, size, &book);
+    let mut sheet = good::sheet(random, size, &book);
+    vary(random, &mut sheet);
     let active = active(random, &sheet);
     Case {
         sheet,
@@ -27,7 +28,24 @@ pub fn active(random: &mut Random, sheet: &Sheet) -> Option<(usize, f32)> {
     Some((animation, frame(random, sheet)))
 }
 
-fn frame(random: &mut Random, sheet: &Sheet) -> f32 {
+/// Gives some targets any layer or raw number, and some the code, the layer and
+/// the raw number of the one before, so that channels repeat.
+pub fn vary(random: &mut Random, sheet: &mut Sheet) {
+    for i in 0..sheet.targets.len() {
+        let earlier = sheet.targets[i.saturating_sub(1)];
+        let target = &mut sheet.targets[i];
+        match random.below(16) {
+            0 => target.layer = random.below(256) as u8,
+            1 => target.raw = random.below(256) as u8,
+            2..4 => {
+                (target.code, target.layer, target.raw) = (earlier.code, earlier.layer, earlier.raw)
+            }
+            _ => {}
+        }
+    }
+}
+
+pub fn frame(random: &mut Random, sheet: &Sheet) -> f32 {
     if sheet.frames.is_empty() || random.once_in(4) {
         return random.number();
     }

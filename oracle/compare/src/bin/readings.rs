@@ -18,7 +18,7 @@ fn main() {
         let mut case = some::case(&mut random);
         for _ in 0..QUESTIONS {
             case.active = some::active(&mut random, &case.sheet);
-            let rust = whole::reading(&case, &whole::state(&case));
+            let rust = whole::reading(&case.book, &whole::state(&case));
             tally.add(Some(rust), read_all(&case), || format!("{case:?}"));
         }
     }

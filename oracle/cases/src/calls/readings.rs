@@ -1,0 +1,195 @@
+//! The readings of document 01 from what the published text evaluates.
+
+use super::reference::Reference;
+use super::{Answer, Call, FILL_BITS, FILL_BYTE, One, Tick, Told, View, table};
+use crate::format::book::Book;
+use crate::format::sheet::Sheet;
+use crate::readings::published_form as form;
+use crate::readings::whole::{self, MATERIAL_CHANNELS, PANE_CHANNELS};
+use published::anim_state::AnimationState;
+use published::pane_tree::PaneId;
+use std::collections::HashMap;
+
+/// A book as it is lent: its bytes, and what they are if they are good.
+pub struct LentBook {
+    pub bytes: Vec<u8>,
+    pub good: Option<GoodBook>,
+    /// P and M, which the outputs' lengths follow, of the book that was good.
+    counts: (usize, usize),
+}
+
+pub struct GoodBook {
+    pub rows: Book,
+    labels: HashMap<String, PaneId>,
+}
+
+impl LentBook {
+    pub fn new(book: &Book) -> Self {
+        let mut lent = Self {
+            bytes: Vec::new(),
+            good: None,
+            counts: (book.panes.len(), book.materials.len()),
+        };
+        lent.put(book.write());
+        lent
+    }
+
+    /// Lends other bytes, which may be no book.
+    pub fn put(&mut self, bytes: Vec<u8>) {
+        self.good = Book::read(&bytes).map(|rows| GoodBook {
+            labels: form::labels(&rows),
+            rows,
+        });
+        if let Some(GoodBook { rows, .. }) = &self.good {
+            self.counts = (rows.panes.len(), rows.materials.len());
+        }
+        self.bytes = bytes;
+    }
+
+    /// How many panes the outputs of the cascade are for.
+    pub fn panes(&self) -> usize {
+        self.counts.0
+    }
+
+    /// How many channels the outputs of a whole reading are for.
+    pub fn channels(&self) -> usize {
+        PANE_CHANNELS * self.counts.0 + MATERIAL_CHANNELS * self.counts.1
+    }
+}
+
+/// A reading whose sheet, keys and player are in order: rows 2, 7 and 13, and
+/// then what the published text reads.
+pub fn answer(
+    sheet: &Sheet,
+    lent: &LentBook,
+    reference: &Reference,
+    view: View,
+    call: &Call,
+) -> Answer {
+    let Some(book) = &lent.good else {
+        return refused(lent, call, 2);
+    };
+    let refusal = table::reading_rows(&book.rows, call);
+    if refusal != 0 {
+        return refused(lent, call, refusal);
+    }
+    let state = reference.evaluate(view, &book.labels);
+    Answer {
+        refusal: 0,
+        told: told(sheet, &book.rows, state, call),
+    }
+}
+
+fn told(sheet: &Sheet, book: &Book, state: AnimationState, call: &Call) -> Told {
+    match *call {
+        Call::ReadPane { pane, channel } => {
+            let pane = whole::pane(&state, usize::from(pane));
+            let channel = usize::from(channel);
+            Told::One(pane_reading(channel, whole::pane_channels(&pane)[channel]))
+        }
+        Call::ReadMaterial { material, channel } => {
+            let row = &book.materials[usize::from(material)];
+            let material = whole::material(&state, row);
+            let channel = usize::from(channel);
+            Told::One(material_reading(
+                channel,
+                whole::material_channels(&material)[channel],
+            ))
+        }
+        Call::ReadAll { .. } => {
+            let whole::Reading { marks, numbers } = whole::reading(book, &state);
+            Told::All { marks, numbers }
+        }
+        Call::ResolvePane(pane) => {
+            let row = &book.panes[usize::from(pane)];
+            let pane = whole::pane(&state, usize::from(pane));
+            let (visible, alpha) = whole::own_look(row, &pane);
+            let transform = whole::transform(row, &pane);
+            Told::Pane {
+                visible,
+                alpha,
+                transform,
+            }
+        }
+        Call::ResolveSrt { material, layer } => {
+            let row = &book.materials[usize::from(material)];
+            let material = whole::material(&state, row);
+            Told::Srt(whole::srt(row, &material, usize::from(layer)))
+        }
+        Call::TextureName { material, slot } => {
+            let row = &book.materials[usize::from(material)];
+            let slot = usize::from(slot);
+            let over = whole::texture_row(&whole::material(&state, row).texture_names[slot]);
+            let name = over.map_or(row.textures[slot], |over| sheet.textures[over]);
+            Told::Name(name.to_vec())
+        }
+        Call::Cascade { .. } => {
+            let whole::Cascade {
+                visible,
+                alpha,
+                handed,
+            } = whole::cascade(book, state);
+            Told::Cascade {
+                visible,
+                alpha,
+                influence: handed,
+            }
+        }
+        _ => Told::Done,
+    }
+}
+
+/// Document 01, "Channels": visible is shown or hidden, all else of a pane a
+/// number.
+fn pane_reading(channel: usize, read: Option<f32>) -> One {
+    const VISIBLE: usize = 10;
+    match (read, channel) {
+        (None, _) => One::Nothing,
+        (Some(x), VISIBLE) => One::Shown(x == 1.0),
+        (Some(x), _) => One::Number(crate::bits::bits_of(x)),
+    }
+}
+
+/// Three texture rows after the layers' numbers, eight levels at the end.
+fn material_reading(channel: usize, read: Option<f32>) -> One {
+    match (read, channel) {
+        (None, _) => One::Nothing,
+        (Some(x), 15..=17) => One::Texture(x as u16),
+        (Some(x), 22..) => One::Level(x as u8),
+        (Some(x), _) => One::Number(crate::bits::bits_of(x)),
+    }
+}
+
+/// What a refused call answers.
+pub fn refused(book: &LentBook, call: &Call, refusal: u8) -> Answer {
+    let outputs = |count: usize, short: bool| count - usize::from(short);
+    let told = match *call {
+        Call::Tick { .. } => Told::Tick(Tick::Idle),
+        Call::ReadPane { .. } | Call::ReadMaterial { .. } => Told::One(One::Nothing),
+        Call::ReadAll { short } => Told::All {
+            marks: vec![FILL_BYTE; outputs(book.channels(), short == 1)],
+            numbers: vec![FILL_BITS; outputs(book.channels(), short == 2)],
+        },
+        Call::ResolvePane(_) => Told::Pane {
+            visible: 0,
+            alpha: 0,
+            transform: [0; 10],
+        },
+        Call::ResolveSrt { .. } => Told::Srt([0; 5]),
+        Call::TextureName { .. } | Call::NextName(_) => Told::Name(Vec::new()),
+        Call::Cascade { short } => Told::Cascade {
+            visible: vec![FILL_BYTE; outputs(book.panes(), short == 1)],
+            alpha: vec![FILL_BITS; outputs(book.panes(), short == 2)],
+            influence: vec![FILL_BITS; outputs(book.panes(), short == 3)],
+        },
+        Call::Play(_) | Call::Pose(..) | Call::Edit { .. } | Call::Undo | Call::Redo => Told::Done,
+    };
+    Answer { refusal, told }
+}
+
+/// The 24-byte field of the name that follows an animation, all zero where it
+/// has none; empty from A up.
+pub fn next_name(sheet: &Sheet, animation: u16) -> Told {
+    let row = sheet.animations.get(usize::from(animation));
+    Told::Name(row.map_or(Vec::new(), |row| row.next.to_vec()))
+}
