@@ -1,0 +1,36 @@
+use Rattle.menu_c.specs.Naming.{textureNameInto}
+use Rattle.menu_c.proofs.Handed.{into-refused, into-given}
+use borrow.Author.Needs.{needs}
+use Rattle.menu_c.proofs.naming.menu_texture_name.Statement.{statement}
+use Rattle.menu_c.proofs.naming.menu_texture_name.Tie as tie
+
+slot-refusal-requires : tie.Need-slot-refusal-requires
+slot-refusal-requires c κs = search needs
+
+returns : tie.Need-returns
+unfolding textureNameInto
+returns c = into-refused _ _ (c .before .slot-refusal .ensures) (c .if1 .taken)
+
+texture-name-requires : tie.Need-texture-name-requires
+texture-name-requires c κs = search needs
+
+hand-out-requires : tie.Need-hand-out-requires
+hand-out-requires c κs = search needs
+
+same-length : tie.Need-same-length
+same-length c = search needs
+
+returns-2 : tie.Need-returns-2
+unfolding textureNameInto
+returns-2 c = into-given _ _ (c .before .before .before .before .before .before .slot-refusal .ensures) (c .before .before .before .before .before .if1 .left) (c .before .before .before .before .texture-name .ensures) (c .before .before .hand-out .ensures)
+
+pub menu-texture-name-spec : {M : Type 1} → statement M
+menu-texture-name-spec =
+    tie.close
+    (tie.spec
+    slot-refusal-requires
+    returns
+    texture-name-requires
+    hand-out-requires
+    same-length
+    returns-2)

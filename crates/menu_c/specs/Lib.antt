@@ -1,0 +1,3 @@
+-- What the exports answer: the definitions of `menu` and `geometry`, as structs of numbers.
+pub mod Answers
+pub mod Naming

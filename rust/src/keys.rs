@@ -1,0 +1,22 @@
+use crate::formats::key_count;
+
+/// The keys of all tracks, as three arrays in sheet order. Calls accept them where each is as long as the sheet has
+/// keys and all keep the key rules.
+#[derive(Clone, Debug, Default, PartialEq)]
+pub struct Keys {
+    pub frames: Vec<f32>,
+    pub values: Vec<f32>,
+    pub slopes: Vec<f32>,
+}
+
+impl Keys {
+    /// Arrays of the sheet's length, all zero, to load into.
+    pub fn for_sheet(sheet: &[u8]) -> Keys {
+        let zeros = vec![0.0; key_count(sheet)];
+        Keys {
+            frames: zeros.clone(),
+            values: zeros.clone(),
+            slopes: zeros,
+        }
+    }
+}

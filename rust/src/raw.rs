@@ -1,0 +1,346 @@
+//! The exports of the proved library as they are: structs of numbers by value, a slice as a pointer and a length.
+//!
+//! Each function asks only that a pointer has as many elements as the length after it says, and that no lent output
+//! overlaps another argument. `refusal` is 0, or a number of [`crate::Refusal`].
+
+/// The number that selects nothing.
+pub const NONE: u16 = 65535;
+
+/// How many edits the journal holds.
+pub const ROWS: usize = 128;
+
+/// The edits that can be undone or redone. Row n % 128 belongs to standing edit number n.
+#[repr(C)]
+#[derive(Clone, Copy, Debug, PartialEq)]
+pub struct Journal {
+    pub track: [u16; ROWS],
+    pub key: [u16; ROWS],
+    pub before_frame: [f32; ROWS],
+    pub before_value: [f32; ROWS],
+    pub before_slope: [f32; ROWS],
+    pub after_frame: [f32; ROWS],
+    pub after_value: [f32; ROWS],
+    pub after_slope: [f32; ROWS],
+}
+
+/// The player. `selection` is an animation's number, or [`NONE`].
+#[repr(C)]
+#[derive(Clone, Copy, Debug, PartialEq)]
+pub struct Player {
+    pub selection: u16,
+    pub playing: bool,
+    pub preview: bool,
+    pub frame: f32,
+    pub reach: u64,
+    pub redo: u64,
+    pub accepted: u64,
+    pub undone: u64,
+    pub redone: u64,
+    pub standing: u64,
+    pub journal: Journal,
+}
+
+/// What a call that may move the player answers.
+#[repr(C)]
+#[derive(Clone, Copy, Debug, PartialEq)]
+pub struct Played {
+    pub refusal: u8,
+    pub player: Player,
+}
+
+/// What a tick answers: 0 idle, 1 running, 2 ended, 3 ended with a next name.
+#[repr(C)]
+#[derive(Clone, Copy, Debug, PartialEq)]
+pub struct Ticked {
+    pub refusal: u8,
+    pub answer: u8,
+    pub player: Player,
+}
+
+/// What a single reading answers. `kind` is 0 nothing, 1 a number, 2 shown (1) or hidden (0), 3 a texture row, 4 a level.
+#[repr(C)]
+#[derive(Clone, Copy, Debug, PartialEq)]
+pub struct ReadOne {
+    pub refusal: u8,
+    pub kind: u8,
+    pub number: f32,
+}
+
+#[repr(C)]
+#[derive(Clone, Copy, Debug, Default, PartialEq)]
+pub struct Vector2f {
+    pub x: f32,
+    pub y: f32,
+}
+
+#[repr(C)]
+#[derive(Clone, Copy, Debug, Default, PartialEq)]
+pub struct Vector3f {
+    pub x: f32,
+    pub y: f32,
+    pub z: f32,
+}
+
+/// What resolving a pane answers.
+#[repr(C)]
+#[derive(Clone, Copy, Debug, PartialEq)]
+pub struct ResolvedPane {
+    pub refusal: u8,
+    pub visible: bool,
+    pub alpha: f32,
+    pub translation: Vector3f,
+    pub rotation: Vector3f,
+    pub scale: Vector2f,
+    pub size: Vector2f,
+}
+
+/// What resolving a material's layer answers.
+#[repr(C)]
+#[derive(Clone, Copy, Debug, PartialEq)]
+pub struct ResolvedSrt {
+    pub refusal: u8,
+    pub translate: Vector2f,
+    pub rotate: f32,
+    pub scale: Vector2f,
+}
+
+/// The four corners of a pane.
+#[repr(C)]
+#[derive(Clone, Copy, Debug, Default, PartialEq)]
+pub struct Corners {
+    pub top_left: Vector2f,
+    pub top_right: Vector2f,
+    pub bottom_left: Vector2f,
+    pub bottom_right: Vector2f,
+}
+
+/// What a call that places corners answers.
+#[repr(C)]
+#[derive(Clone, Copy, Debug, PartialEq)]
+pub struct Placed {
+    pub refusal: u8,
+    pub corners: Corners,
+}
+
+/// What turning a point answers.
+#[repr(C)]
+#[derive(Clone, Copy, Debug, PartialEq)]
+pub struct Turned {
+    pub refusal: u8,
+    pub point: Vector2f,
+}
+
+unsafe extern "C" {
+    pub fn menu_load(
+        sheet: *const u8,
+        sheet_len: usize,
+        frames: *mut f32,
+        frames_len: usize,
+        values: *mut f32,
+        values_len: usize,
+        slopes: *mut f32,
+        slopes_len: usize,
+    ) -> Played;
+    pub fn menu_next_name(
+        sheet: *const u8,
+        sheet_len: usize,
+        animation: u16,
+        out: *mut u8,
+        out_len: usize,
+    ) -> u8;
+    pub fn menu_play(player: Player, sheet: *const u8, sheet_len: usize, animation: u16) -> Played;
+    pub fn menu_pose(
+        player: Player,
+        sheet: *const u8,
+        sheet_len: usize,
+        animation: u16,
+        frame: f32,
+    ) -> Played;
+    pub fn menu_tick(
+        player: Player,
+        sheet: *const u8,
+        sheet_len: usize,
+        dt: f32,
+        fps: f32,
+    ) -> Ticked;
+    pub fn menu_key_edit(
+        player: Player,
+        sheet: *const u8,
+        sheet_len: usize,
+        frames: *mut f32,
+        frames_len: usize,
+        values: *mut f32,
+        values_len: usize,
+        slopes: *mut f32,
+        slopes_len: usize,
+        track: u16,
+        key: u16,
+        frame: f32,
+        value: f32,
+    ) -> Played;
+    pub fn menu_slope_edit(
+        player: Player,
+        sheet: *const u8,
+        sheet_len: usize,
+        frames: *mut f32,
+        frames_len: usize,
+        values: *mut f32,
+        values_len: usize,
+        slopes: *mut f32,
+        slopes_len: usize,
+        track: u16,
+        key: u16,
+        slope: f32,
+    ) -> Played;
+    pub fn menu_undo(
+        player: Player,
+        sheet: *const u8,
+        sheet_len: usize,
+        frames: *mut f32,
+        frames_len: usize,
+        values: *mut f32,
+        values_len: usize,
+        slopes: *mut f32,
+        slopes_len: usize,
+    ) -> Played;
+    pub fn menu_redo(
+        player: Player,
+        sheet: *const u8,
+        sheet_len: usize,
+        frames: *mut f32,
+        frames_len: usize,
+        values: *mut f32,
+        values_len: usize,
+        slopes: *mut f32,
+        slopes_len: usize,
+    ) -> Played;
+    pub fn menu_read_pane(
+        player: Player,
+        sheet: *const u8,
+        sheet_len: usize,
+        book: *const u8,
+        book_len: usize,
+        frames: *const f32,
+        frames_len: usize,
+        values: *const f32,
+        values_len: usize,
+        slopes: *const f32,
+        slopes_len: usize,
+        pane: u16,
+        channel: u16,
+    ) -> ReadOne;
+    pub fn menu_read_material(
+        player: Player,
+        sheet: *const u8,
+        sheet_len: usize,
+        book: *const u8,
+        book_len: usize,
+        frames: *const f32,
+        frames_len: usize,
+        values: *const f32,
+        values_len: usize,
+        slopes: *const f32,
+        slopes_len: usize,
+        material: u16,
+        channel: u16,
+    ) -> ReadOne;
+    pub fn menu_read_all(
+        player: Player,
+        sheet: *const u8,
+        sheet_len: usize,
+        book: *const u8,
+        book_len: usize,
+        frames: *const f32,
+        frames_len: usize,
+        values: *const f32,
+        values_len: usize,
+        slopes: *const f32,
+        slopes_len: usize,
+        marks: *mut u8,
+        marks_len: usize,
+        numbers: *mut f32,
+        numbers_len: usize,
+    ) -> u8;
+    pub fn menu_resolve_pane(
+        player: Player,
+        sheet: *const u8,
+        sheet_len: usize,
+        book: *const u8,
+        book_len: usize,
+        frames: *const f32,
+        frames_len: usize,
+        values: *const f32,
+        values_len: usize,
+        slopes: *const f32,
+        slopes_len: usize,
+        pane: u16,
+    ) -> ResolvedPane;
+    pub fn menu_resolve_srt(
+        player: Player,
+        sheet: *const u8,
+        sheet_len: usize,
+        book: *const u8,
+        book_len: usize,
+        frames: *const f32,
+        frames_len: usize,
+        values: *const f32,
+        values_len: usize,
+        slopes: *const f32,
+        slopes_len: usize,
+        material: u16,
+        layer: u16,
+    ) -> ResolvedSrt;
+    pub fn menu_texture_name(
+        player: Player,
+        sheet: *const u8,
+        sheet_len: usize,
+        book: *const u8,
+        book_len: usize,
+        frames: *const f32,
+        frames_len: usize,
+        values: *const f32,
+        values_len: usize,
+        slopes: *const f32,
+        slopes_len: usize,
+        material: u16,
+        slot: u16,
+        out: *mut u8,
+        out_len: usize,
+    ) -> u8;
+    pub fn menu_cascade(
+        player: Player,
+        sheet: *const u8,
+        sheet_len: usize,
+        book: *const u8,
+        book_len: usize,
+        frames: *const f32,
+        frames_len: usize,
+        values: *const f32,
+        values_len: usize,
+        slopes: *const f32,
+        slopes_len: usize,
+        visible: *mut u8,
+        visible_len: usize,
+        alpha: *mut f32,
+        alpha_len: usize,
+        influence: *mut f32,
+        influence_len: usize,
+    ) -> u8;
+    pub fn menu_uvs(
+        layers: *const f32,
+        layers_len: usize,
+        srts: *const f32,
+        srts_len: usize,
+        out: *mut f32,
+        out_len: usize,
+    ) -> u8;
+    pub fn menu_corners(
+        center: Vector2f,
+        size: Vector2f,
+        horizontal: u8,
+        vertical: u8,
+        rotation: Vector3f,
+    ) -> Placed;
+    pub fn menu_translate(corners: Corners, delta: Vector2f) -> Placed;
+    pub fn menu_rotate_point(point: Vector2f, center: Vector2f, rotation: Vector3f) -> Turned;
+}
