@@ -31,6 +31,7 @@ pub fn mode(random: &mut Random, held: &Held) -> (Mode, usize) {
         0..4 => (Mode::Mixed, few),
         4..7 => (Mode::Edits, random.pick(&[few, 2 * few, 20, 150])),
         7..9 => (Mode::Undos, random.pick(&[few, reach + 2, reach / 2 + 1])),
+        9..11 if redo == 0 && !random.once_in(4) => (Mode::Undos, few),
         9..11 => (Mode::Redos, random.pick(&[few, redo + 2, redo / 2 + 1])),
         11 => (Mode::Ticks, few),
         12..15 => (Mode::Reads, few),
@@ -38,7 +39,7 @@ pub fn mode(random: &mut Random, held: &Held) -> (Mode, usize) {
     }
 }
 
-/// A sheet with tracks to edit, and a book that it moves.
+/// A sheet, most often with tracks to edit, and a book that it moves.
 pub fn pair(random: &mut Random) -> (Sheet, Book) {
     if random.once_in(256) {
         let book = books::book(random, books::FULL);
@@ -47,6 +48,12 @@ pub fn pair(random: &mut Random) -> (Sheet, Book) {
     }
     let panes = 1 + random.below(5);
     let materials = random.below(4);
+    if random.once_in(24) {
+        let book = books::book(random, books::Size { panes, materials });
+        let size = good::size(random);
+        let sheet = good::sheet(random, size, &book);
+        return (sheet, book);
+    }
     let targets = 1 + random.below(10);
     let keys = targets + random.below(4 * targets);
     sized_pair(random, books::Size { panes, materials }, targets, keys)
