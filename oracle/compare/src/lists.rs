@@ -2,9 +2,10 @@
 //! of each refusal, how many lists with more edits than a journal holds.
 
 use crate::ours::Ours;
+use cases::calls::held::Held;
 use cases::calls::player::ROWS;
 use cases::calls::walk::{Step, Walk};
-use cases::calls::{Call, Request};
+use cases::calls::{Answer, Call, Request};
 
 const KINDS: [&str; 15] = [
     "play",
@@ -75,16 +76,30 @@ impl Counts {
                 ours.spoil(spoil);
             }
             Step::Called(call, answer) => {
-                self.calls += 1;
-                self.of_kind[kind(call)][usize::from(answer.refusal)] += 1;
-                let given = ours.step(call, &walk.held);
-                if given != *answer {
-                    return Some(format!("{call:?}\n  plain {answer:?}\n  here  {given:?}"));
-                }
+                return self.compare(call, answer, &walk.held, ours);
             }
         }
         let same = ours.is(&walk.held);
         (!same).then(|| format!("player or keys after {step:?}"))
+    }
+
+    /// Makes a call that the plain player has made and answered: the answers,
+    /// and then player and keys whole.
+    pub fn compare(
+        &mut self,
+        call: &Call,
+        plain: &Answer,
+        held: &Held,
+        ours: &mut Ours,
+    ) -> Option<String> {
+        self.calls += 1;
+        self.of_kind[kind(call)][usize::from(plain.refusal)] += 1;
+        let given = ours.step(call, held);
+        if given != *plain {
+            return Some(format!("{call:?}\n  plain {plain:?}\n  here  {given:?}"));
+        }
+        let same = ours.is(held);
+        (!same).then(|| format!("player or keys after {call:?}"))
     }
 
     pub fn print(&self) {

@@ -57,6 +57,13 @@ impl Held {
         self.changed = true;
     }
 
+    /// Puts a player and keys in the place of its own.
+    pub fn put(&mut self, player: &Player, keys: &Arrays) {
+        self.player.clone_from(player);
+        self.keys.clone_from(keys);
+        self.changed = true;
+    }
+
     /// All keys' bits.
     pub fn key_bits(&self) -> [Vec<u32>; 3] {
         let bits = |array: &Vec<f32>| array.iter().map(|&x| bits_of(x)).collect();

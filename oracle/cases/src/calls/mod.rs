@@ -3,6 +3,7 @@
 //! plain machine (`machine`) and the player with its lent keys (`held`) are
 //! written from document 01 and decline by its table (`table`).
 
+pub mod alone;
 pub mod held;
 pub mod machine;
 pub mod player;

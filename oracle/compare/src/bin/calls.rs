@@ -1,8 +1,8 @@
-//! `calls COUNT SEED`: random lists of calls on the plain machine, whose calls
-//! mean what the published text says, beside the proved player, until COUNT
-//! calls were compared: every answer and output, all keys and the whole player
-//! after each. `calls 0 SEED` runs the one list of that seed, and tells its
-//! steps.
+//! `calls COUNT SEED`: lists of calls on the plain machine, whose calls mean what
+//! the published text says, beside the proved player: every answer and output,
+//! all keys and the whole player after each. First every field, journal row and
+//! key spoiled alone, then random lists, until COUNT of their calls were
+//! compared. `calls 0 SEED` runs the one list of that seed, and tells its steps.
 
 use cases::random::Random;
 use compare::arguments::Arguments;
@@ -10,6 +10,9 @@ use compare::lists::{Counts, Difference};
 
 fn main() {
     let Arguments { count, seed } = Arguments::read(1_000_000);
+    if count > 0 {
+        spoiled_alone();
+    }
     let mut counts = Counts::default();
     let mut smallest: Option<Difference> = None;
     if count == 0 {
@@ -33,4 +36,19 @@ fn main() {
         std::process::exit(1);
     }
     println!("calls, seed {seed}: {} compared, none differ", counts.calls);
+}
+
+fn spoiled_alone() {
+    let mut counts = Counts::default();
+    let found = counts.each_spoil_alone();
+    println!("everything spoiled alone:");
+    counts.print();
+    if let Some(what) = found {
+        println!("differs: {what}");
+        std::process::exit(1);
+    }
+    println!(
+        "spoiled alone: {} calls compared, none differ",
+        counts.calls
+    );
 }

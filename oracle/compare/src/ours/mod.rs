@@ -10,6 +10,7 @@ use cases::calls::spoil::Spoil;
 use cases::calls::{Answer, Call, FILL_BITS, FILL_BYTE, NONE, One, Request, Tick, Told};
 use dovebolt::{Keys, Reading, Refusal, ResolvedPane, Srt};
 
+#[derive(Clone)]
 pub struct Ours {
     player: dovebolt::Player,
     keys: Keys,
