@@ -10,7 +10,7 @@ fn lists_reach_every_refusal_and_long_journals() {
     for seed in 0..4000 {
         let mut walk = Walk::of_seed(seed);
         let mut most = 0;
-        while let Some(step) = walk.next() {
+        while let Some(step) = walk.step() {
             match step {
                 Step::Called(_, answer) => {
                     refusals[usize::from(answer.refusal)] += 1;

@@ -57,7 +57,7 @@ impl Counts {
         let mut difference = (!ours.is(&walk.held)).then(|| "loading".to_string());
         let mut steps = 0;
         while difference.is_none() {
-            let Some(step) = walk.next() else { break };
+            let Some(step) = walk.step() else { break };
             each(&step);
             steps += 1;
             difference = self.step(&step, &walk, &mut ours);
@@ -102,11 +102,20 @@ impl Counts {
         (!same).then(|| format!("player or keys after {call:?}"))
     }
 
-    pub fn print(&self) {
-        println!(
-            "{} lists, {} calls, {} spoils; {} lists passed {ROWS} edits; {} lists had the plain machine beside them to the end",
-            self.lists, self.calls, self.spoils, self.long, self.plain
-        );
+    pub fn print_lists(&self) {
+        let Self {
+            lists,
+            spoils,
+            long,
+            plain,
+            ..
+        } = self;
+        println!("{lists} lists with {spoils} spoils");
+        println!("{long} lists passed {ROWS} edits");
+        println!("{plain} lists had the plain machine beside them to the end");
+    }
+
+    pub fn print_calls(&self) {
         for (name, counts) in KINDS.iter().zip(&self.of_kind) {
             let all: u64 = counts.iter().sum();
             println!("{name}: {all} calls, {}", told(counts));

@@ -81,7 +81,7 @@ impl Walk {
     }
 
     /// The next step; nothing once the list has its length and stands unspoiled.
-    pub fn next(&mut self) -> Option<Step> {
+    pub fn step(&mut self) -> Option<Step> {
         if let Some(spoil) = self.due.pop() {
             self.spoil_for(&spoil);
             return Some(Step::Spoiled(spoil));
@@ -100,7 +100,7 @@ impl Walk {
         self.left -= 1;
         if self.mode == Mode::Spoiled && self.back.is_empty() {
             self.due = self.some_spoils();
-            return self.next();
+            return self.step();
         }
         let call = some::call(&mut self.random, &self.held, self.mode);
         Some(self.call(call))
@@ -108,9 +108,9 @@ impl Walk {
 
     fn some_spoils(&mut self) -> Vec<Spoil> {
         if self.all_spoils {
-            spoil::some(&mut self.random, &self.held)
+            spoil::some::any(&mut self.random, &self.held)
         } else {
-            spoil::some_stored(&mut self.random, &self.held)
+            spoil::some::stored(&mut self.random, &self.held)
         }
     }
 

@@ -1,9 +1,10 @@
 //! Random cases of readings.
 
 use super::Case;
+use crate::curves::STEP;
 use crate::format::sheet::Sheet;
 use crate::random::Random;
-use crate::sheets::{books, good};
+use crate::sheets::{books, good, names};
 
 pub fn case(random: &mut Random) -> Case {
     let size = books::size(random);
@@ -11,6 +12,7 @@ pub fn case(random: &mut Random) -> Case {
     let size = good::size(random);
     let mut sheet = good::sheet(random, size, &book);
     vary(random, &mut sheet);
+    vary_textures(random, &mut sheet);
     let active = active(random, &sheet);
     Case {
         sheet,
@@ -41,6 +43,25 @@ pub fn vary(random: &mut Random, sheet: &mut Sheet) {
                 (target.code, target.layer, target.raw) = (earlier.code, earlier.layer, earlier.raw)
             }
             _ => {}
+        }
+    }
+}
+
+/// Gives the textures names that are easily confused, and makes some targets
+/// ones of a texture slot; a Step's values are then rows of the textures, or
+/// just above them.
+pub fn vary_textures(random: &mut Random, sheet: &mut Sheet) {
+    let textures = sheet.textures.len();
+    sheet.textures = names::distinct(random, textures);
+    for target in &mut sheet.targets {
+        if !random.once_in(8) {
+            continue;
+        }
+        (target.code, target.layer) = (*b"FLTP", random.below(3) as u8);
+        if target.curve == STEP {
+            for value in &mut sheet.values[target.keys()] {
+                *value = random.below(textures + 2) as f32;
+            }
         }
     }
 }

@@ -26,7 +26,8 @@ fn main() {
             smallest = found;
         }
     }
-    counts.print();
+    counts.print_lists();
+    counts.print_calls();
     if let Some(Difference { seed, steps, what }) = smallest {
         println!(
             "{} lists differ; the smallest has seed {seed}",
@@ -41,8 +42,7 @@ fn main() {
 fn spoiled_alone() {
     let mut counts = Counts::default();
     let found = counts.each_spoil_alone();
-    println!("everything spoiled alone:");
-    counts.print();
+    counts.print_calls();
     if let Some(what) = found {
         println!("differs: {what}");
         std::process::exit(1);

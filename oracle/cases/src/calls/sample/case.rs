@@ -75,7 +75,7 @@ impl Case {
     /// a whole reading and a cascade have an answer, so these keep theirs.
     pub fn tell_wrong(&mut self, n: usize) {
         let keeps_refusal = self.code == 9 || self.code >= 12;
-        if n % 2 == 0 && !keeps_refusal {
+        if n.is_multiple_of(2) && !keeps_refusal {
             self.refusal ^= 1;
         } else {
             let place = n * 7 % self.state.len();

@@ -74,7 +74,7 @@ impl List {
 
     /// Goes on to the list's end.
     fn run(mut self) -> Self {
-        while let Some(step) = self.walk.next() {
+        while let Some(step) = self.walk.step() {
             self.keep(&step);
         }
         self
