@@ -148,6 +148,22 @@ fn an_edit_empties_the_redo_list() {
     assert_eq!(counts, (3, 1, 0, 2, 2));
 }
 
+/// A second content, for a pane named child.
+fn two_contents() -> Sheet {
+    let mut sheet = sheet(true, &[0.0, 0.0]);
+    sheet.contents.push(Content {
+        name: name("child"),
+        ..Content::default()
+    });
+    sheet.targets[0].key_count = 1;
+    sheet.targets.push(Target {
+        content: 1,
+        first_key: 1,
+        ..sheet.targets[0]
+    });
+    sheet
+}
+
 /// "Parent and child alpha 0.5: child 0.25, or 0.5 if the parent's bit 1 is
 /// off." Both panes' alpha is overridden to 127.5 / 255.
 #[test]
@@ -164,22 +180,7 @@ fn the_cascade() {
             pane.parent = [NO_PARENT, 0][row];
             pane.flags = flags;
         }
-        let mut sheet = sheet(true, &[0.0]);
-        sheet.contents.push(Content {
-            name: name("child"),
-            ..Content::default()
-        });
-        sheet.targets.push(Target {
-            content: 1,
-            first_key: 1,
-            key_count: 0,
-            ..sheet.targets[0]
-        });
-        sheet.targets[1].key_count = 1;
-        sheet.frames.push(0.0);
-        sheet.values.push(127.5);
-        sheet.slopes.push(0.0);
-        let mut walk = walk_over(&sheet, &book);
+        let mut walk = walk_over(&two_contents(), &book);
         answer(&mut walk, Call::Play(0));
         let Told::Cascade { alpha: rows, .. } = answer(&mut walk, Call::Cascade { short: 0 }).told
         else {

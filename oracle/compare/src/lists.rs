@@ -5,8 +5,9 @@ use crate::ours::Ours;
 use cases::calls::held::Held;
 use cases::calls::player::ROWS;
 use cases::calls::walk::{Step, Walk};
-use cases::calls::{Answer, Call, Request};
+use cases::calls::{Answer, Call};
 
+/// By a call's code.
 const KINDS: [&str; 15] = [
     "play",
     "pose",
@@ -93,7 +94,7 @@ impl Counts {
         ours: &mut Ours,
     ) -> Option<String> {
         self.calls += 1;
-        self.of_kind[kind(call)][usize::from(plain.refusal)] += 1;
+        self.of_kind[usize::from(call.code())][usize::from(plain.refusal)] += 1;
         let given = ours.step(call, held);
         if given != *plain {
             return Some(format!("{call:?}\n  plain {plain:?}\n  here  {given:?}"));
@@ -135,27 +136,4 @@ fn told(counts: &[u64; REFUSALS]) -> String {
         counts[0],
         refused.join(", ")
     )
-}
-
-fn kind(call: &Call) -> usize {
-    match call {
-        Call::Play(_) => 0,
-        Call::Pose(..) => 1,
-        Call::Tick { .. } => 2,
-        Call::Edit {
-            request: Request::Key { .. },
-            ..
-        } => 3,
-        Call::Edit { .. } => 4,
-        Call::Undo => 5,
-        Call::Redo => 6,
-        Call::ReadPane { .. } => 7,
-        Call::ReadMaterial { .. } => 8,
-        Call::ReadAll { .. } => 9,
-        Call::ResolvePane(_) => 10,
-        Call::ResolveSrt { .. } => 11,
-        Call::TextureName { .. } => 12,
-        Call::Cascade { .. } => 13,
-        Call::NextName(_) => 14,
-    }
 }

@@ -6,7 +6,6 @@ use super::player::{Player, ROWS};
 use super::spoil::{self, Spoil};
 use super::{Call, NONE, Request};
 use crate::bits::bits_of;
-use crate::format::name;
 use crate::sheets::damage;
 
 const MOST: u64 = 1 << 40;
@@ -32,10 +31,8 @@ pub fn states() -> Vec<(Held, Vec<Call>)> {
 
 /// A curve of each kind with three keys, the first two in the first animation.
 fn loaded() -> Held {
-    let mut book = damage::book::base();
-    book.panes[0].label = name("pane");
-    book.materials[0].name = name("material");
-    Held::new(&damage::sheet::base(), &book)
+    let (sheet, book) = damage::base_pair();
+    Held::new(&sheet, &book)
 }
 
 /// Edits that go round the keys of the first two tracks, no two alike.

@@ -150,6 +150,33 @@ impl View {
 }
 
 impl Call {
+    /// The number of its kind, which a stored list has.
+    pub fn code(&self) -> u8 {
+        match self {
+            Call::Play(_) => 0,
+            Call::Pose(..) => 1,
+            Call::Tick { .. } => 2,
+            Call::Edit {
+                request: Request::Key { .. },
+                ..
+            } => 3,
+            Call::Edit {
+                request: Request::Slope(_),
+                ..
+            } => 4,
+            Call::Undo => 5,
+            Call::Redo => 6,
+            Call::ReadPane { .. } => 7,
+            Call::ReadMaterial { .. } => 8,
+            Call::ReadAll { .. } => 9,
+            Call::ResolvePane(_) => 10,
+            Call::ResolveSrt { .. } => 11,
+            Call::TextureName { .. } => 12,
+            Call::Cascade { .. } => 13,
+            Call::NextName(_) => 14,
+        }
+    }
+
     /// Whether the call takes the keys: all but play, pose, tick and the name.
     pub fn takes_keys(&self) -> bool {
         !matches!(

@@ -70,7 +70,7 @@ impl Walk {
         }
     }
 
-    /// The list goes through the modes that are given, one after the other.
+    /// Goes on in a mode for so many steps.
     pub fn go(&mut self, mode: Mode, turns: usize) {
         (self.mode, self.turns) = (mode, turns);
     }

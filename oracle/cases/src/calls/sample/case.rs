@@ -55,9 +55,9 @@ impl Case {
         let mut body = Bytes::default();
         let (code, refusal) = match step {
             Step::Called(call, answer) => {
-                let code = body.arguments(call);
+                body.arguments(call);
                 body.answer(answer);
-                (code, answer.refusal)
+                (call.code(), answer.refusal)
             }
             Step::Spoiled(spoil) => (body.spoil(spoil), 0),
         };
@@ -109,15 +109,17 @@ impl Bytes {
         self.u16(other);
     }
 
-    /// Writes a call's arguments, and gives its code.
-    fn arguments(&mut self, call: &Call) -> u8 {
+    fn arguments(&mut self, call: &Call) {
         match *call {
             Call::Play(animation) => self.u16(animation),
             Call::Pose(animation, frame) => {
                 self.u16(animation);
                 self.f32(frame);
             }
-            Call::Tick { dt, fps } => [dt, fps].map(|x| self.f32(x)).into_iter().collect(),
+            Call::Tick { dt, fps } => {
+                self.f32(dt);
+                self.f32(fps);
+            }
             Call::Edit {
                 track,
                 key,
@@ -135,7 +137,6 @@ impl Bytes {
             Call::TextureName { material, slot } => self.pair(material, slot),
             Call::NextName(animation) => self.u16(animation),
         }
-        code(call)
     }
 
     fn request(&mut self, request: Request) {
@@ -244,29 +245,6 @@ impl Bytes {
             self.u32(count as u32);
         }
         self.u32(hash(&held.key_bits()));
-    }
-}
-
-fn code(call: &Call) -> u8 {
-    match call {
-        Call::Play(_) => 0,
-        Call::Pose(..) => 1,
-        Call::Tick { .. } => 2,
-        Call::Edit {
-            request: Request::Key { .. },
-            ..
-        } => 3,
-        Call::Edit { .. } => 4,
-        Call::Undo => 5,
-        Call::Redo => 6,
-        Call::ReadPane { .. } => 7,
-        Call::ReadMaterial { .. } => 8,
-        Call::ReadAll { .. } => 9,
-        Call::ResolvePane(_) => 10,
-        Call::ResolveSrt { .. } => 11,
-        Call::TextureName { .. } => 12,
-        Call::Cascade { .. } => 13,
-        Call::NextName(_) => 14,
     }
 }
 

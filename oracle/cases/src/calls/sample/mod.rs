@@ -13,8 +13,8 @@ use super::spoil::{self, Spoil};
 use super::walk::{Step, Walk};
 use super::{Call, Request};
 use crate::bits::bits_of;
+use crate::format::book_refusal;
 use crate::format::sheet::Sheet;
-use crate::format::{book_refusal, name};
 use crate::random::Random;
 use crate::sample::{CALLS, Files, Record};
 use crate::sheets::{books, damage};
@@ -193,10 +193,7 @@ fn damaged_book(seed: u64) -> List {
 /// Each field of the player, each used row, each array's length and some keys
 /// spoiled alone, with calls of every kind that takes them.
 fn each_spoil(seed: u64) -> List {
-    let sheet = damage::sheet::base();
-    let mut book = damage::book::base();
-    book.panes[0].label = name("pane");
-    book.materials[0].name = name("material");
+    let (sheet, book) = damage::base_pair();
     let mut list = List::new(Walk::new(Random::new(seed), &sheet, &book, 0));
     edits_to_spoil(&mut list);
     for spoil in field_spoils(&sheet).into_iter().chain(key_spoils()) {
