@@ -102,7 +102,10 @@ pub fn calls() -> Vec<Call> {
             channel: 21,
         },
         Call::ReadAll { short: 0 },
+        Call::ReadAll { short: 1 },
         Call::ReadAll { short: 2 },
+        Call::ReadAll { short: 3 },
+        Call::ReadAll { short: 4 },
         Call::ResolvePane(0),
         Call::ResolveSrt {
             material: 0,
@@ -113,7 +116,12 @@ pub fn calls() -> Vec<Call> {
             slot: 2,
         },
         Call::Cascade { short: 0 },
+        Call::Cascade { short: 1 },
+        Call::Cascade { short: 2 },
         Call::Cascade { short: 3 },
+        Call::Cascade { short: 4 },
+        Call::Cascade { short: 5 },
+        Call::Cascade { short: 6 },
         Call::NextName(0),
     ]
 }
@@ -275,5 +283,5 @@ fn lent(held: &Held) -> impl Iterator<Item = Spoil> {
         Spoil::Book(longer(b)),
         Spoil::Book(Vec::new()),
     ];
-    (1..4).map(Spoil::Short).chain(bytes)
+    (1..7).map(Spoil::Short).chain(bytes)
 }

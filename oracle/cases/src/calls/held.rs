@@ -5,7 +5,7 @@
 use super::player::{Entry, Player};
 use super::readings::{self, LentBook, refused};
 use super::reference::Reference;
-use super::{Answer, Call, Request, Told, table};
+use super::{Answer, Call, Request, Told, lent_length, table};
 use crate::bits::bits_of;
 use crate::format::book::Book;
 use crate::format::load::Arrays;
@@ -19,7 +19,8 @@ pub struct Held {
     pub book: LentBook,
     pub player: Player,
     pub keys: Arrays,
-    /// Which key array is handed on one short: 1 frames, 2 values, 3 slopes.
+    /// Which key array is handed on one short: 1 frames, 2 values, 3 slopes; 4 to
+    /// 6 one long.
     pub short: u8,
     reference: Reference,
     /// The keys were changed and are not yet the reference's.
@@ -42,13 +43,10 @@ impl Held {
         }
     }
 
-    /// The key arrays as they are handed on.
-    pub fn lent(&self) -> [&[f32]; 3] {
-        std::array::from_fn(|i| {
-            let array = &self.keys[i];
-            let short = usize::from(usize::from(self.short) == i + 1);
-            &array[..array.len() - short]
-        })
+    /// How long the key arrays are as they are handed on.
+    pub fn lengths(&self) -> [usize; 3] {
+        let count = self.keys[0].len();
+        [1, 2, 3].map(|of| lent_length(count, 3, of, self.short))
     }
 
     /// Sets one of a key's numbers.
@@ -117,10 +115,10 @@ impl Held {
         if call.takes_book() && self.book.good.is_none() {
             return 2;
         }
-        if call.takes_keys() && table::row_3(&self.sheet, self.lent()) {
+        if call.takes_keys() && table::row_3(&self.sheet, self.lengths()) {
             return 3;
         }
-        if call.takes_keys() && table::row_4(&self.sheet, self.lent()) {
+        if call.takes_keys() && table::row_4(&self.sheet, &self.keys) {
             return 4;
         }
         if table::row_5(&self.sheet, &self.player) {

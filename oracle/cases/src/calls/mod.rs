@@ -22,6 +22,13 @@ pub const NONE: u16 = 65_535;
 pub const FILL_BYTE: u8 = 0xA5;
 pub const FILL_BITS: u32 = 0x42A5_A5A5;
 
+/// How long the output number `of` is lent, the first being 1, of `outputs` that
+/// should be `count` long.
+pub fn lent_length(count: usize, outputs: u8, of: u8, short: u8) -> usize {
+    let longer = usize::from(short == outputs + of);
+    count - usize::from(short == of) + longer
+}
+
 /// A call: what it takes, player, keys, sheet and book apart.
 #[derive(Clone, Copy, Debug)]
 pub enum Call {
@@ -46,7 +53,8 @@ pub enum Call {
         material: u16,
         channel: u16,
     },
-    /// 1: the marks are one short, 2: the numbers.
+    /// 1: the marks are one short, 2: the numbers; 3 and 4: one long, which no
+    /// stored list has.
     ReadAll {
         short: u8,
     },
@@ -59,7 +67,7 @@ pub enum Call {
         material: u16,
         slot: u16,
     },
-    /// 1: visible is one short, 2: alpha, 3: influence.
+    /// 1: visible is one short, 2: alpha, 3: influence; 4 to 6: one long.
     Cascade {
         short: u8,
     },

@@ -1,7 +1,7 @@
 //! The readings of document 01 from what the published text evaluates.
 
 use super::reference::Reference;
-use super::{Answer, Call, FILL_BITS, FILL_BYTE, One, Tick, Told, View, table};
+use super::{Answer, Call, FILL_BITS, FILL_BYTE, One, Tick, Told, View, lent_length, table};
 use crate::format::book::Book;
 use crate::format::sheet::Sheet;
 use crate::readings::published_form as form;
@@ -54,6 +54,16 @@ impl LentBook {
     /// How many channels the outputs of a whole reading are for.
     pub fn channels(&self) -> usize {
         PANE_CHANNELS * self.counts.0 + MATERIAL_CHANNELS * self.counts.1
+    }
+
+    /// How long the output number `of` of a whole reading is lent.
+    pub fn channels_lent(&self, of: u8, short: u8) -> usize {
+        lent_length(self.channels(), 2, of, short)
+    }
+
+    /// The same of the cascade.
+    pub fn panes_lent(&self, of: u8, short: u8) -> usize {
+        lent_length(self.panes(), 3, of, short)
     }
 }
 
@@ -162,13 +172,12 @@ fn material_reading(channel: usize, read: Option<f32>) -> One {
 
 /// What a refused call answers.
 pub fn refused(book: &LentBook, call: &Call, refusal: u8) -> Answer {
-    let outputs = |count: usize, short: bool| count - usize::from(short);
     let told = match *call {
         Call::Tick { .. } => Told::Tick(Tick::Idle),
         Call::ReadPane { .. } | Call::ReadMaterial { .. } => Told::One(One::Nothing),
         Call::ReadAll { short } => Told::All {
-            marks: vec![FILL_BYTE; outputs(book.channels(), short == 1)],
-            numbers: vec![FILL_BITS; outputs(book.channels(), short == 2)],
+            marks: vec![FILL_BYTE; book.channels_lent(1, short)],
+            numbers: vec![FILL_BITS; book.channels_lent(2, short)],
         },
         Call::ResolvePane(_) => Told::Pane {
             visible: 0,
@@ -178,9 +187,9 @@ pub fn refused(book: &LentBook, call: &Call, refusal: u8) -> Answer {
         Call::ResolveSrt { .. } => Told::Srt([0; 5]),
         Call::TextureName { .. } | Call::NextName(_) => Told::Name(Vec::new()),
         Call::Cascade { short } => Told::Cascade {
-            visible: vec![FILL_BYTE; outputs(book.panes(), short == 1)],
-            alpha: vec![FILL_BITS; outputs(book.panes(), short == 2)],
-            influence: vec![FILL_BITS; outputs(book.panes(), short == 3)],
+            visible: vec![FILL_BYTE; book.panes_lent(1, short)],
+            alpha: vec![FILL_BITS; book.panes_lent(2, short)],
+            influence: vec![FILL_BITS; book.panes_lent(3, short)],
         },
         Call::Play(_) | Call::Pose(..) | Call::Edit { .. } | Call::Undo | Call::Redo => Told::Done,
     };

@@ -18,13 +18,12 @@ const MOST: u64 = 1 << 40;
 const LAYERS: u16 = 3;
 
 /// "a key array is not K long"
-pub fn row_3(sheet: &Sheet, lent: [&[f32]; 3]) -> bool {
-    let k = sheet.frames.len();
-    lent.iter().any(|array| array.len() != k)
+pub fn row_3(sheet: &Sheet, lengths: [usize; 3]) -> bool {
+    lengths != [sheet.frames.len(); 3]
 }
 
 /// "keys (at loading the sheet's, later the lent ones) break the key rules"
-pub fn row_4(sheet: &Sheet, lent: [&[f32]; 3]) -> bool {
+pub fn row_4(sheet: &Sheet, lent: &Arrays) -> bool {
     let [frames, values, slopes] = lent;
     !keys::ok(sheet, frames, values, slopes)
 }
@@ -87,7 +86,7 @@ pub fn row_5_return(
     }
     let mut returned = lent.clone();
     (0..3).for_each(|i| returned[i][place] = f32::from_bits(back[i]));
-    row_4(sheet, returned.each_ref().map(|array| &array[..]))
+    row_4(sheet, &returned)
 }
 
 /// Where a track's key is among all keys.

@@ -8,7 +8,7 @@ use cases::bits::bits_of;
 use cases::calls::held::Held;
 use cases::calls::spoil::Spoil;
 use cases::calls::{Answer, Call, FILL_BITS, FILL_BYTE, NONE, One, Request, Tick, Told};
-use dovebolt::{Keys, Reading, Refusal, ResolvedPane, Srt};
+use dovebolt::{Keys, Reading, Refusal, ResolvedPane, Srt, raw};
 
 #[derive(Clone)]
 pub struct Ours {
@@ -21,6 +21,14 @@ impl Ours {
     pub fn load(sheet: &[u8]) -> Self {
         let (player, keys) = dovebolt::Player::load(sheet).expect("a good sheet");
         Self { player, keys }
+    }
+
+    pub fn player(&self) -> &raw::Player {
+        self.player.as_raw()
+    }
+
+    pub fn keys(&self) -> &Keys {
+        &self.keys
     }
 
     /// Whether player and keys are the plain ones, whole.
@@ -62,14 +70,16 @@ impl Ours {
     /// Makes a call with the sheet, the book and the array lengths that are lent
     /// now.
     pub fn step(&mut self, call: &Call, held: &Held) -> Answer {
-        let cut = usize::from(held.short).checked_sub(1);
-        let last = cut.and_then(|i| self.arrays()[i].pop());
+        let whole = held.keys[0].len();
+        let last = self.arrays().map(|array| array.last().copied());
+        let lengths = held.lengths();
+        (0..3).for_each(|i| self.arrays()[i].resize(lengths[i], 0.0));
         let answer = self.lent(call, held);
         if answer.refusal != 0 {
             refused::keeps_all(call, held, *self.player.as_raw(), &mut self.keys);
         }
-        if let (Some(i), Some(last)) = (cut, last) {
-            self.arrays()[i].push(last);
+        for (array, last) in self.arrays().into_iter().zip(last) {
+            array.resize(whole, last.unwrap_or_default());
         }
         answer
     }
@@ -121,7 +131,7 @@ impl Ours {
     }
 
     fn read_all(&self, held: &Held, s: &[u8], b: &[u8], short: u8) -> Answer {
-        let count = |of: u8| held.book.channels() - usize::from(short == of);
+        let count = |of: u8| held.book.channels_lent(of, short);
         let mut marks = vec![FILL_BYTE; count(1)];
         let mut numbers = vec![f32::from_bits(FILL_BITS); count(2)];
         let player = &self.player;
@@ -134,7 +144,7 @@ impl Ours {
     }
 
     fn cascade(&self, held: &Held, s: &[u8], b: &[u8], short: u8) -> Answer {
-        let count = |of: u8| held.book.panes() - usize::from(short == of);
+        let count = |of: u8| held.book.panes_lent(of, short);
         let mut visible = vec![FILL_BYTE; count(1)];
         let mut alpha = vec![f32::from_bits(FILL_BITS); count(2)];
         let mut influence = vec![f32::from_bits(FILL_BITS); count(3)];
