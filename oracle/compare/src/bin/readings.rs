@@ -6,6 +6,7 @@
 
 use cases::calls::held::Held;
 use cases::calls::{Call, NONE};
+use cases::format::Name;
 use cases::format::sheet::Sheet;
 use cases::random::Random;
 use cases::readings::whole::{MATERIAL_CHANNELS, PANE_CHANNELS};
@@ -35,11 +36,15 @@ struct Tallies {
     met: Met,
 }
 
-/// What the sheets held: families with their raw numbers and layers.
+/// What the sheets held: families with their raw numbers and layers; contents
+/// whose name is one of the book's but for the last byte; contents of an
+/// animation that have one name.
 #[derive(Default)]
 struct Met {
     raws: HashSet<(u32, u8)>,
     layers: HashSet<(u32, u8)>,
+    near: u64,
+    repeated: u64,
 }
 
 fn main() {
@@ -48,7 +53,7 @@ fn main() {
     let mut tallies = Tallies::default();
     while tallies.whole.compared < count {
         let case = some::case(&mut random);
-        tallies.met.add(&case.sheet);
+        tallies.met.add(&case);
         tallies.questions(&mut random, case);
     }
     tallies.report(seed);
@@ -92,6 +97,10 @@ impl Tallies {
             self.met.raws.len(),
             self.met.layers.len()
         );
+        println!(
+            "{} contents with a name of the book but for the last byte, {} with the name of an earlier one",
+            self.met.near, self.met.repeated
+        );
         let all = [
             (&self.without_player, "whole readings without a player"),
             (&self.whole, "whole readings"),
@@ -108,7 +117,25 @@ impl Tallies {
 }
 
 impl Met {
-    fn add(&mut self, sheet: &Sheet) {
+    fn add(&mut self, case: &Case) {
+        let labels = case.book.panes.iter().map(|pane| pane.label);
+        let names: Vec<Name> = labels
+            .chain(case.book.materials.iter().map(|m| m.name))
+            .collect();
+        let contents = &case.sheet.contents;
+        for (row, content) in contents.iter().enumerate() {
+            let near =
+                |name: &Name| name[..23] == content.name[..23] && name[23] != content.name[23];
+            self.near += u64::from(names.iter().any(near));
+            let mut earlier = contents[..row].iter();
+            let repeats =
+                earlier.any(|e| (e.animation, e.name) == (content.animation, content.name));
+            self.repeated += u64::from(repeats);
+        }
+        self.add_targets(&case.sheet);
+    }
+
+    fn add_targets(&mut self, sheet: &Sheet) {
         for target in &sheet.targets {
             let is_family =
                 PANE_CODES.contains(&&target.code) || MATERIAL_CODES.contains(&&target.code);
