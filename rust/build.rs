@@ -20,6 +20,8 @@ fn main() {
     );
     println!("cargo::rustc-link-search=native={}", folder.display());
     println!("cargo::rustc-link-lib=static=menu_c");
+    // for the test that links it from C
+    println!("cargo::rustc-env=DOVEBOLT_ARCHIVE={}", archive.display());
     println!("cargo::rerun-if-changed={}", archive.display());
     println!("cargo::rerun-if-env-changed={FOLDER}");
 }

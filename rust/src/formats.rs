@@ -19,26 +19,52 @@ fn u16_at(bytes: &[u8], at: usize) -> usize {
 }
 
 /// How many keys the sheet says that it has: the length of each key array. The sheet is not checked here.
+///
+/// ```
+/// assert_eq!(dovebolt::key_count(&dovebolt::example::sheet()), 9);
+/// ```
 pub fn key_count(sheet: &[u8]) -> usize {
     u16_at(sheet, 6)
 }
 
 /// How many panes the book says that it has. The book is not checked here.
+///
+/// ```
+/// assert_eq!(dovebolt::pane_count(&dovebolt::example::book()), 2);
+/// ```
 pub fn pane_count(book: &[u8]) -> usize {
     u16_at(book, 0)
 }
 
 /// How many channels a whole reading of this book has. The book is not checked here.
+///
+/// ```
+/// assert_eq!(dovebolt::channel_count(&dovebolt::example::book()), 28 * 2 + 30);
+/// ```
 pub fn channel_count(book: &[u8]) -> usize {
     pane_count(book) * PANE_CHANNELS + u16_at(book, 2) * MATERIAL_CHANNELS
 }
 
 /// A name of a sheet or a book: 24 bytes, of which zero bytes at the end don't count.
+///
+/// ```
+/// use dovebolt::Name;
+///
+/// let mut field = [0; 24];
+/// field[..4].copy_from_slice(b"Idle");
+/// assert_eq!(Name(field).to_string(), "Idle");
+/// ```
 #[derive(Clone, Copy, PartialEq, Eq, Hash)]
 pub struct Name(pub [u8; 24]);
 
 impl Name {
     /// The bytes that count.
+    ///
+    /// ```
+    /// let name = dovebolt::next_name(&dovebolt::example::sheet(), 0)?;
+    /// assert_eq!(name.bytes(), b"Idle");
+    /// # Ok::<(), dovebolt::Refusal>(())
+    /// ```
     pub fn bytes(&self) -> &[u8] {
         let end = self
             .0
@@ -49,10 +75,21 @@ impl Name {
     }
 
     /// The name as text; bytes that are not UTF-8 are replaced.
+    ///
+    /// ```
+    /// let name = dovebolt::next_name(&dovebolt::example::sheet(), 0)?;
+    /// assert_eq!(name.text(), "Idle");
+    /// # Ok::<(), dovebolt::Refusal>(())
+    /// ```
     pub fn text(&self) -> Cow<'_, str> {
         String::from_utf8_lossy(self.bytes())
     }
 
+    /// Whether no byte counts.
+    ///
+    /// ```
+    /// assert!(dovebolt::Name([0; 24]).is_empty());
+    /// ```
     pub fn is_empty(&self) -> bool {
         self.bytes().is_empty()
     }
@@ -71,6 +108,16 @@ impl fmt::Debug for Name {
 }
 
 /// The name of the animation that follows `animation`, empty where none does. Refusals 1, 6.
+///
+/// ```
+/// use dovebolt::{Refusal, example, next_name};
+///
+/// let sheet = example::sheet();
+/// assert_eq!(next_name(&sheet, 0)?.text(), "Idle");
+/// assert!(next_name(&sheet, 1)?.is_empty());
+/// assert_eq!(next_name(&sheet, 2), Err(Refusal::Animation));
+/// # Ok::<(), dovebolt::Refusal>(())
+/// ```
 pub fn next_name(sheet: &[u8], animation: u16) -> Result<Name, Refusal> {
     let mut name = Name([0; 24]);
     next_name_into(sheet, animation, &mut name.0)?;
@@ -78,6 +125,17 @@ pub fn next_name(sheet: &[u8], animation: u16) -> Result<Name, Refusal> {
 }
 
 /// The same into a lent output, which must be 24 long. Refusals 1, 6, 13.
+///
+/// ```
+/// use dovebolt::{Refusal, example, next_name_into};
+///
+/// let sheet = example::sheet();
+/// let mut out = [0; 24];
+/// next_name_into(&sheet, 0, &mut out)?;
+/// assert_eq!(&out[..5], b"Idle\0");
+/// assert_eq!(next_name_into(&sheet, 0, &mut out[1..]), Err(Refusal::OutputLength));
+/// # Ok::<(), dovebolt::Refusal>(())
+/// ```
 pub fn next_name_into(sheet: &[u8], animation: u16, out: &mut [u8]) -> Result<(), Refusal> {
     // SAFETY: each pointer has the length of its slice, and `out` is lent alone.
     checked(unsafe {

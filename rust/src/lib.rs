@@ -3,8 +3,24 @@
 //!
 //! A *sheet* holds the animations, a *book* the panes and materials that they move; both are bytes. [`Player::load`]
 //! takes the sheet's keys out of it. What a call declines it declines by a [`Refusal`], and then nothing has changed.
+//!
+//! ```
+//! use dovebolt::{Player, Tick, example};
+//!
+//! let (sheet, book) = (example::sheet(), example::book());
+//! let (mut player, mut keys) = Player::load(&sheet)?;
+//! player.play(&sheet, Some(0))?;
+//! while player.tick(&sheet, 1.0 / 60.0, 60.0)? == Tick::Running {
+//!     let logo = player.resolve_pane(&sheet, &book, &keys, 1)?;
+//!     println!("frame {}: {:?}", player.frame(), logo.transform.translation);
+//! }
+//! player.key_edit(&sheet, &mut keys, 3, 1, 6.0, 20.0)?;
+//! player.undo(&sheet, &mut keys)?;
+//! # Ok::<(), dovebolt::Refusal>(())
+//! ```
 
-mod channels;
+mod answers;
+pub mod example;
 mod formats;
 mod keys;
 mod player;
@@ -13,10 +29,10 @@ mod readings;
 mod refusal;
 mod shapes;
 
-pub use channels::{Cascaded, Channels, Reading, ResolvedPane, Srt, Transform};
+pub use answers::{Cascaded, Channels, Reading, ResolvedPane, Srt, Tick, Transform};
 pub use formats::{Name, channel_count, key_count, next_name, next_name_into, pane_count};
 pub use keys::Keys;
-pub use player::{Player, Tick};
+pub use player::Player;
 pub use raw::{Corners, Vector2f, Vector3f};
 pub use refusal::Refusal;
 pub use shapes::{Uvs, corners, rotate_point, translate, uvs, uvs_into};

@@ -1,11 +1,35 @@
 //! The readings: what the active animation makes of a book's panes and materials.
 
-use crate::channels::{Cascaded, Channels, Reading, ResolvedPane, Srt, Transform};
+use crate::answers::{Cascaded, Channels, Reading, ResolvedPane, Srt, Transform};
 use crate::formats::{Name, channel_count, pane_count};
 use crate::keys::Keys;
 use crate::player::Player;
 use crate::raw;
 use crate::refusal::{Refusal, checked};
+
+/// A call that reads keys and book.
+macro_rules! read {
+    ($call:path, $player:expr, $sheet:expr, $book:expr, $keys:expr $(, $more:expr)*) => {{
+        let Keys { frames, values, slopes } = $keys;
+        // SAFETY: each pointer has the length of its slice, and an output among `more` is lent alone.
+        unsafe {
+            $call(
+                *$player.as_raw(),
+                $sheet.as_ptr(),
+                $sheet.len(),
+                $book.as_ptr(),
+                $book.len(),
+                frames.as_ptr(),
+                frames.len(),
+                values.as_ptr(),
+                values.len(),
+                slopes.as_ptr(),
+                slopes.len(),
+                $($more),*
+            )
+        }
+    }};
+}
 
 fn reading_of(answer: raw::ReadOne) -> Result<Reading, Refusal> {
     checked(answer.refusal)?;
@@ -21,6 +45,19 @@ fn reading_of(answer: raw::ReadOne) -> Result<Reading, Refusal> {
 
 impl Player {
     /// One of the 28 channels of a pane. Refusals 1 to 5, 7.
+    ///
+    /// ```
+    /// use dovebolt::{Player, Reading, example};
+    ///
+    /// let (sheet, book) = (example::sheet(), example::book());
+    /// let (mut player, keys) = Player::load(&sheet)?;
+    /// player.pose(&sheet, Some(0), 4.0)?;
+    /// let translate_x = player.read_pane(&sheet, &book, &keys, 1, 0)?;
+    /// assert_eq!(translate_x, Reading::Number(8.0));
+    /// let visible = player.read_pane(&sheet, &book, &keys, 1, 10)?;
+    /// assert_eq!(visible, Reading::Shown(true));
+    /// # Ok::<(), dovebolt::Refusal>(())
+    /// ```
     pub fn read_pane(
         &self,
         sheet: &[u8],
@@ -29,28 +66,24 @@ impl Player {
         pane: u16,
         channel: u16,
     ) -> Result<Reading, Refusal> {
-        // SAFETY: each pointer has the length of its slice.
-        let answer = unsafe {
-            raw::menu_read_pane(
-                *self.as_raw(),
-                sheet.as_ptr(),
-                sheet.len(),
-                book.as_ptr(),
-                book.len(),
-                keys.frames.as_ptr(),
-                keys.frames.len(),
-                keys.values.as_ptr(),
-                keys.values.len(),
-                keys.slopes.as_ptr(),
-                keys.slopes.len(),
-                pane,
-                channel,
-            )
-        };
+        let answer = read!(raw::menu_read_pane, self, sheet, book, keys, pane, channel);
         reading_of(answer)
     }
 
     /// One of the 30 channels of a material. Refusals 1 to 5, 7.
+    ///
+    /// ```
+    /// use dovebolt::{Player, Reading, example};
+    ///
+    /// let (sheet, book) = (example::sheet(), example::book());
+    /// let (mut player, keys) = Player::load(&sheet)?;
+    /// player.pose(&sheet, Some(0), 4.0)?;
+    /// let texture = player.read_material(&sheet, &book, &keys, 0, 15)?;
+    /// assert_eq!(texture, Reading::Row(1));
+    /// let black_red = player.read_material(&sheet, &book, &keys, 0, 22)?;
+    /// assert_eq!(black_red, Reading::Level(200));
+    /// # Ok::<(), dovebolt::Refusal>(())
+    /// ```
     pub fn read_material(
         &self,
         sheet: &[u8],
@@ -59,28 +92,31 @@ impl Player {
         material: u16,
         channel: u16,
     ) -> Result<Reading, Refusal> {
-        // SAFETY: each pointer has the length of its slice.
-        let answer = unsafe {
-            raw::menu_read_material(
-                *self.as_raw(),
-                sheet.as_ptr(),
-                sheet.len(),
-                book.as_ptr(),
-                book.len(),
-                keys.frames.as_ptr(),
-                keys.frames.len(),
-                keys.values.as_ptr(),
-                keys.values.len(),
-                keys.slopes.as_ptr(),
-                keys.slopes.len(),
-                material,
-                channel,
-            )
-        };
+        let answer = read!(
+            raw::menu_read_material,
+            self,
+            sheet,
+            book,
+            keys,
+            material,
+            channel
+        );
         reading_of(answer)
     }
 
     /// Every channel of the book. Refusals 1 to 5.
+    ///
+    /// ```
+    /// use dovebolt::{Player, example};
+    ///
+    /// let (sheet, book) = (example::sheet(), example::book());
+    /// let (mut player, keys) = Player::load(&sheet)?;
+    /// player.pose(&sheet, Some(0), 4.0)?;
+    /// let all = player.read_all(&sheet, &book, &keys)?;
+    /// assert_eq!(all.get(28), Some(8.0));
+    /// assert_eq!(all.get(29), None);
+    /// # Ok::<(), dovebolt::Refusal>(())
+    /// ```
     pub fn read_all(&self, sheet: &[u8], book: &[u8], keys: &Keys) -> Result<Channels, Refusal> {
         let count = channel_count(book);
         let mut all = Channels {
@@ -92,6 +128,20 @@ impl Player {
     }
 
     /// The same into lent outputs, each as long as [`channel_count`] says. Refusals 1 to 5, 13.
+    ///
+    /// ```
+    /// use dovebolt::{Player, Refusal, example};
+    ///
+    /// let (sheet, book) = (example::sheet(), example::book());
+    /// let (mut player, keys) = Player::load(&sheet)?;
+    /// player.pose(&sheet, Some(0), 4.0)?;
+    /// let (mut marks, mut numbers) = ([0; 86], [0.0; 86]);
+    /// player.read_all_into(&sheet, &book, &keys, &mut marks, &mut numbers)?;
+    /// assert_eq!((marks[28], numbers[28]), (1, 8.0));
+    /// let declined = player.read_all_into(&sheet, &book, &keys, &mut marks[1..], &mut numbers);
+    /// assert_eq!(declined, Err(Refusal::OutputLength));
+    /// # Ok::<(), dovebolt::Refusal>(())
+    /// ```
     pub fn read_all_into(
         &self,
         sheet: &[u8],
@@ -100,29 +150,33 @@ impl Player {
         marks: &mut [u8],
         numbers: &mut [f32],
     ) -> Result<(), Refusal> {
-        // SAFETY: each pointer has the length of its slice, and what is filled is lent alone.
-        checked(unsafe {
-            raw::menu_read_all(
-                *self.as_raw(),
-                sheet.as_ptr(),
-                sheet.len(),
-                book.as_ptr(),
-                book.len(),
-                keys.frames.as_ptr(),
-                keys.frames.len(),
-                keys.values.as_ptr(),
-                keys.values.len(),
-                keys.slopes.as_ptr(),
-                keys.slopes.len(),
-                marks.as_mut_ptr(),
-                marks.len(),
-                numbers.as_mut_ptr(),
-                numbers.len(),
-            )
-        })
+        checked(read!(
+            raw::menu_read_all,
+            self,
+            sheet,
+            book,
+            keys,
+            marks.as_mut_ptr(),
+            marks.len(),
+            numbers.as_mut_ptr(),
+            numbers.len()
+        ))
     }
 
     /// A pane's transform, visibility and alpha. Refusals 1 to 5, 7.
+    ///
+    /// ```
+    /// use dovebolt::{Player, example};
+    ///
+    /// let (sheet, book) = (example::sheet(), example::book());
+    /// let (mut player, keys) = Player::load(&sheet)?;
+    /// player.pose(&sheet, Some(0), 4.0)?;
+    /// let logo = player.resolve_pane(&sheet, &book, &keys, 1)?;
+    /// assert!(logo.visible);
+    /// assert_eq!(logo.transform.translation.x, 8.0); // the override
+    /// assert_eq!(logo.transform.translation.y, 2.0); // the book's
+    /// # Ok::<(), dovebolt::Refusal>(())
+    /// ```
     pub fn resolve_pane(
         &self,
         sheet: &[u8],
@@ -130,23 +184,7 @@ impl Player {
         keys: &Keys,
         pane: u16,
     ) -> Result<ResolvedPane, Refusal> {
-        // SAFETY: each pointer has the length of its slice.
-        let answer = unsafe {
-            raw::menu_resolve_pane(
-                *self.as_raw(),
-                sheet.as_ptr(),
-                sheet.len(),
-                book.as_ptr(),
-                book.len(),
-                keys.frames.as_ptr(),
-                keys.frames.len(),
-                keys.values.as_ptr(),
-                keys.values.len(),
-                keys.slopes.as_ptr(),
-                keys.slopes.len(),
-                pane,
-            )
-        };
+        let answer = read!(raw::menu_resolve_pane, self, sheet, book, keys, pane);
         checked(answer.refusal)?;
         Ok(ResolvedPane {
             visible: answer.visible,
@@ -161,6 +199,17 @@ impl Player {
     }
 
     /// The texture transform of a material's layer. Refusals 1 to 5, 7.
+    ///
+    /// ```
+    /// use dovebolt::{Player, example};
+    ///
+    /// let (sheet, book) = (example::sheet(), example::book());
+    /// let (mut player, keys) = Player::load(&sheet)?;
+    /// player.pose(&sheet, Some(0), 4.0)?;
+    /// let layer = player.resolve_srt(&sheet, &book, &keys, 0, 1)?;
+    /// assert_eq!(layer.rotate, 8.0);
+    /// # Ok::<(), dovebolt::Refusal>(())
+    /// ```
     pub fn resolve_srt(
         &self,
         sheet: &[u8],
@@ -169,24 +218,15 @@ impl Player {
         material: u16,
         layer: u16,
     ) -> Result<Srt, Refusal> {
-        // SAFETY: each pointer has the length of its slice.
-        let answer = unsafe {
-            raw::menu_resolve_srt(
-                *self.as_raw(),
-                sheet.as_ptr(),
-                sheet.len(),
-                book.as_ptr(),
-                book.len(),
-                keys.frames.as_ptr(),
-                keys.frames.len(),
-                keys.values.as_ptr(),
-                keys.values.len(),
-                keys.slopes.as_ptr(),
-                keys.slopes.len(),
-                material,
-                layer,
-            )
-        };
+        let answer = read!(
+            raw::menu_resolve_srt,
+            self,
+            sheet,
+            book,
+            keys,
+            material,
+            layer
+        );
         checked(answer.refusal)?;
         Ok(Srt {
             translate: answer.translate,
@@ -196,6 +236,17 @@ impl Player {
     }
 
     /// The name in a material's texture slot: the sheet's where it is overridden, else the book's. Refusals 1 to 5, 7.
+    ///
+    /// ```
+    /// use dovebolt::{Player, example};
+    ///
+    /// let (sheet, book) = (example::sheet(), example::book());
+    /// let (mut player, keys) = Player::load(&sheet)?;
+    /// player.pose(&sheet, Some(0), 4.0)?;
+    /// assert_eq!(player.texture_name(&sheet, &book, &keys, 0, 0)?.text(), "night"); // the override
+    /// assert_eq!(player.texture_name(&sheet, &book, &keys, 0, 1)?.text(), "mask"); // the book's
+    /// # Ok::<(), dovebolt::Refusal>(())
+    /// ```
     pub fn texture_name(
         &self,
         sheet: &[u8],
@@ -210,6 +261,20 @@ impl Player {
     }
 
     /// The same into a lent output, which must be 24 long. Refusals 1 to 5, 7, 13.
+    ///
+    /// ```
+    /// use dovebolt::{Player, Refusal, example};
+    ///
+    /// let (sheet, book) = (example::sheet(), example::book());
+    /// let (mut player, keys) = Player::load(&sheet)?;
+    /// player.pose(&sheet, Some(0), 4.0)?;
+    /// let mut out = [0; 24];
+    /// player.texture_name_into(&sheet, &book, &keys, 0, 0, &mut out)?;
+    /// assert_eq!(&out[..6], b"night\0");
+    /// let declined = player.texture_name_into(&sheet, &book, &keys, 0, 0, &mut out[1..]);
+    /// assert_eq!(declined, Err(Refusal::OutputLength));
+    /// # Ok::<(), dovebolt::Refusal>(())
+    /// ```
     pub fn texture_name_into(
         &self,
         sheet: &[u8],
@@ -219,29 +284,32 @@ impl Player {
         slot: u16,
         out: &mut [u8],
     ) -> Result<(), Refusal> {
-        // SAFETY: each pointer has the length of its slice, and what is filled is lent alone.
-        checked(unsafe {
-            raw::menu_texture_name(
-                *self.as_raw(),
-                sheet.as_ptr(),
-                sheet.len(),
-                book.as_ptr(),
-                book.len(),
-                keys.frames.as_ptr(),
-                keys.frames.len(),
-                keys.values.as_ptr(),
-                keys.values.len(),
-                keys.slopes.as_ptr(),
-                keys.slopes.len(),
-                material,
-                slot,
-                out.as_mut_ptr(),
-                out.len(),
-            )
-        })
+        checked(read!(
+            raw::menu_texture_name,
+            self,
+            sheet,
+            book,
+            keys,
+            material,
+            slot,
+            out.as_mut_ptr(),
+            out.len()
+        ))
     }
 
     /// Each pane under its parents. Refusals 1 to 5.
+    ///
+    /// ```
+    /// use dovebolt::{Player, example};
+    ///
+    /// let (sheet, book) = (example::sheet(), example::book());
+    /// let (mut player, keys) = Player::load(&sheet)?;
+    /// player.pose(&sheet, Some(0), 4.0)?;
+    /// let rows = player.cascade(&sheet, &book, &keys)?;
+    /// assert_eq!(rows[0].alpha, 1.0);
+    /// assert_eq!(rows[1].alpha, 0.2);
+    /// # Ok::<(), dovebolt::Refusal>(())
+    /// ```
     pub fn cascade(
         &self,
         sheet: &[u8],
@@ -263,6 +331,18 @@ impl Player {
     }
 
     /// The same into lent outputs, each as long as [`pane_count`] says. Refusals 1 to 5, 13.
+    ///
+    /// ```
+    /// use dovebolt::{Player, example};
+    ///
+    /// let (sheet, book) = (example::sheet(), example::book());
+    /// let (mut player, keys) = Player::load(&sheet)?;
+    /// player.pose(&sheet, Some(0), 4.0)?;
+    /// let (mut visible, mut alpha, mut influence) = ([0; 2], [0.0; 2], [0.0; 2]);
+    /// player.cascade_into(&sheet, &book, &keys, &mut visible, &mut alpha, &mut influence)?;
+    /// assert_eq!((visible, alpha), ([1, 1], [1.0, 0.2]));
+    /// # Ok::<(), dovebolt::Refusal>(())
+    /// ```
     pub fn cascade_into(
         &self,
         sheet: &[u8],
@@ -272,27 +352,18 @@ impl Player {
         alpha: &mut [f32],
         influence: &mut [f32],
     ) -> Result<(), Refusal> {
-        // SAFETY: each pointer has the length of its slice, and what is filled is lent alone.
-        checked(unsafe {
-            raw::menu_cascade(
-                *self.as_raw(),
-                sheet.as_ptr(),
-                sheet.len(),
-                book.as_ptr(),
-                book.len(),
-                keys.frames.as_ptr(),
-                keys.frames.len(),
-                keys.values.as_ptr(),
-                keys.values.len(),
-                keys.slopes.as_ptr(),
-                keys.slopes.len(),
-                visible.as_mut_ptr(),
-                visible.len(),
-                alpha.as_mut_ptr(),
-                alpha.len(),
-                influence.as_mut_ptr(),
-                influence.len(),
-            )
-        })
+        checked(read!(
+            raw::menu_cascade,
+            self,
+            sheet,
+            book,
+            keys,
+            visible.as_mut_ptr(),
+            visible.len(),
+            alpha.as_mut_ptr(),
+            alpha.len(),
+            influence.as_mut_ptr(),
+            influence.len()
+        ))
     }
 }

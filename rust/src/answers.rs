@@ -1,6 +1,32 @@
-//! What readings answer.
+//! What calls answer.
 
 use crate::raw::{Vector2f, Vector3f};
+
+/// What a tick came to.
+///
+/// ```
+/// use dovebolt::{Player, Tick, example, next_name};
+///
+/// let sheet = example::sheet();
+/// let (mut player, _) = Player::load(&sheet)?;
+/// assert_eq!(player.tick(&sheet, 0.5, 8.0)?, Tick::Idle);
+/// player.play(&sheet, Some(0))?;
+/// assert_eq!(player.tick(&sheet, 0.5, 8.0)?, Tick::Running);
+/// assert_eq!(player.tick(&sheet, 0.5, 8.0)?, Tick::Next);
+/// assert_eq!(next_name(&sheet, 0)?.text(), "Idle");
+/// # Ok::<(), dovebolt::Refusal>(())
+/// ```
+#[derive(Clone, Copy, Debug, PartialEq, Eq, Hash)]
+pub enum Tick {
+    /// Nothing is selected, or it does not play: nothing moved.
+    Idle,
+    /// The animation goes on.
+    Running,
+    /// The animation ended.
+    Ended,
+    /// The animation ended and names the one that comes next: [`crate::next_name`].
+    Next,
+}
 
 /// What one channel reads.
 #[derive(Clone, Copy, Debug, PartialEq)]
@@ -18,6 +44,12 @@ pub enum Reading {
 }
 
 /// The whole reading of a book: a mark (0 or 1) and a number for each channel, panes first.
+///
+/// ```
+/// let all = dovebolt::Channels { marks: vec![1, 0], numbers: vec![2.5, 0.0] };
+/// assert_eq!(all.get(0), Some(2.5));
+/// assert_eq!(all.get(1), None);
+/// ```
 #[derive(Clone, Debug, PartialEq)]
 pub struct Channels {
     pub marks: Vec<u8>,

@@ -1,0 +1,252 @@
+/* Dovebolt: the outward calls of the proved menu player, for C.
+ *
+ * Link target/staticlib/libmenu_c.a, which `rt staticlib menu_c` writes (x86-64 Linux).
+ *
+ * A sheet holds the animations, a book the panes and materials that they move. A slice is a pointer and a length in
+ * elements. A call asks only that a pointer has that many elements (any pointer will do for none), and that no output
+ * overlaps another argument. It answers a refusal, 0 for none; the first that applies by rising number. On a refusal
+ * nothing that was lent has changed, the player comes back as it was, and other answers are 0.
+ */
+#ifndef MENU_H
+#define MENU_H
+
+#include <stdbool.h>
+#include <stddef.h>
+#include <stdint.h>
+
+#ifdef __cplusplus
+extern "C" {
+#endif
+
+/* ---- refusals */
+enum menu_refusal {
+    MENU_OK = 0,
+    MENU_SHEET = 1,              /* the sheet breaks its layout (key rules apart) */
+    MENU_BOOK = 2,               /* the book breaks its layout */
+    MENU_KEY_LENGTHS = 3,        /* a key array is not as long as the sheet has keys */
+    MENU_KEY_RULES = 4,          /* the keys (at loading the sheet's, later the lent ones) break the key rules */
+    MENU_STATE = 5,              /* the player's state is broken, or an undo's or redo's key is not as its entry says */
+    MENU_ANIMATION = 6,          /* no such animation to play or to follow; edit with nothing active */
+    MENU_NO_SUCH = 7,            /* track not in the active animation, or no such key, channel, pane, material or origin */
+    MENU_NOT_FINITE = 8,         /* an argument or a tick's frame not finite; UV layers or SRTs not of whole entries */
+    MENU_OVERTAKES = 9,          /* clamped frame above the next key's */
+    MENU_NOT_HERMITE = 10,       /* slope edit, curve not Hermite */
+    MENU_NOTHING_TO_RETURN = 11, /* nothing to undo, or to redo */
+    MENU_ANGLE = 12,             /* an angle above 3,600 degrees in size */
+    MENU_OUTPUT_LENGTH = 13      /* outputs not exactly as long */
+};
+
+/* ---- lengths and numbers */
+enum {
+    MENU_NONE = 65535,          /* the number that selects no animation */
+    MENU_ROWS = 128,            /* rows of the journal */
+    MENU_NAME = 24,             /* bytes of a name; zero bytes at its end don't count */
+    MENU_UVS = 24,              /* numbers of a UV block */
+    MENU_PANE_CHANNELS = 28,    /* translation, rotation, scale, size, visible, alpha, 16 corner colours */
+    MENU_MATERIAL_CHANNELS = 30 /* 3 layers of an SRT, 3 textures, indirect rotation and scales, alpha reference, 8 colours */
+};
+
+/* what a tick came to */
+enum menu_tick_answer { MENU_IDLE = 0, MENU_RUNNING = 1, MENU_ENDED = 2, MENU_NEXT = 3 };
+
+/* what a reading is: its number is 0 for nothing and hidden, 1 for shown */
+enum menu_reading_kind { MENU_NOTHING = 0, MENU_NUMBER = 1, MENU_SHOWN = 2, MENU_ROW = 3, MENU_LEVEL = 4 };
+
+/* ---- structs */
+
+/* The edits that can be undone or redone. Row n % 128 belongs to standing edit number n. */
+typedef struct {
+    uint16_t track[MENU_ROWS];
+    uint16_t key[MENU_ROWS];
+    float before_frame[MENU_ROWS];
+    float before_value[MENU_ROWS];
+    float before_slope[MENU_ROWS];
+    float after_frame[MENU_ROWS];
+    float after_value[MENU_ROWS];
+    float after_slope[MENU_ROWS];
+} menu_journal;
+
+/* Made by menu_load, handed in by value and taken back from each answer. */
+typedef struct {
+    uint16_t selection; /* an animation's number, or MENU_NONE */
+    bool playing;
+    bool preview;
+    float frame;
+    uint64_t reach; /* edits that can be undone */
+    uint64_t redo;  /* edits that can be redone */
+    uint64_t accepted;
+    uint64_t undone;
+    uint64_t redone;
+    uint64_t standing; /* edits that stand */
+    menu_journal journal;
+} menu_player;
+
+typedef struct {
+    uint8_t refusal;
+    menu_player player;
+} menu_played;
+
+typedef struct {
+    uint8_t refusal;
+    uint8_t answer; /* enum menu_tick_answer */
+    menu_player player;
+} menu_ticked;
+
+typedef struct {
+    uint8_t refusal;
+    uint8_t kind; /* enum menu_reading_kind */
+    float number;
+} menu_read_one;
+
+typedef struct {
+    float x, y;
+} menu_vector2;
+
+typedef struct {
+    float x, y, z;
+} menu_vector3;
+
+/* A pane's overrides, else the book's. Angles are degrees. */
+typedef struct {
+    uint8_t refusal;
+    bool visible;
+    float alpha;
+    menu_vector3 translation;
+    menu_vector3 rotation;
+    menu_vector2 scale;
+    menu_vector2 size;
+} menu_resolved_pane;
+
+typedef struct {
+    uint8_t refusal;
+    menu_vector2 translate;
+    float rotate;
+    menu_vector2 scale;
+} menu_resolved_srt;
+
+typedef struct {
+    menu_vector2 top_left;
+    menu_vector2 top_right;
+    menu_vector2 bottom_left;
+    menu_vector2 bottom_right;
+} menu_corners_set;
+
+typedef struct {
+    uint8_t refusal;
+    menu_corners_set corners;
+} menu_placed;
+
+typedef struct {
+    uint8_t refusal;
+    menu_vector2 point;
+} menu_turned;
+
+/* ---- loading and playing */
+
+/* The sheet's keys into three arrays, each as long as the sheet has keys (its u16 at byte 6), with a fresh player.
+ * Refusals 1, 3, 4. */
+menu_played menu_load(const uint8_t *sheet, size_t sheet_len, float *frames, size_t frames_len, float *values,
+                      size_t values_len, float *slopes, size_t slopes_len);
+
+/* The name that follows an animation, into MENU_NAME bytes: all zero where none does. Refusals 1, 6, 13. */
+uint8_t menu_next_name(const uint8_t *sheet, size_t sheet_len, uint16_t animation, uint8_t *out, size_t out_len);
+
+/* Plays an animation from its start; MENU_NONE does nothing. Refusals 1, 5, 6. */
+menu_played menu_play(menu_player player, const uint8_t *sheet, size_t sheet_len, uint16_t animation);
+
+/* Holds an animation at a frame; MENU_NONE, and a number that the sheet doesn't have, clear the selection.
+ * Refusals 1, 5, 8. */
+menu_played menu_pose(menu_player player, const uint8_t *sheet, size_t sheet_len, uint16_t animation, float frame);
+
+/* Lets dt seconds pass at fps frames a second. Refusals 1, 5, 8. */
+menu_ticked menu_tick(menu_player player, const uint8_t *sheet, size_t sheet_len, float dt, float fps);
+
+/* ---- editing: the keys are those that menu_load filled */
+
+/* Moves a key of the active animation to a frame and a value, held between its neighbours. Refusals 1, 3 to 9. */
+menu_played menu_key_edit(menu_player player, const uint8_t *sheet, size_t sheet_len, float *frames, size_t frames_len,
+                          float *values, size_t values_len, float *slopes, size_t slopes_len, uint16_t track,
+                          uint16_t key, float frame, float value);
+
+/* Gives a Hermite key of the active animation a slope. Refusals 1, 3 to 8, 10. */
+menu_played menu_slope_edit(menu_player player, const uint8_t *sheet, size_t sheet_len, float *frames,
+                            size_t frames_len, float *values, size_t values_len, float *slopes, size_t slopes_len,
+                            uint16_t track, uint16_t key, float slope);
+
+/* Takes the last standing edit back. Refusals 1, 3 to 5, 11. */
+menu_played menu_undo(menu_player player, const uint8_t *sheet, size_t sheet_len, float *frames, size_t frames_len,
+                      float *values, size_t values_len, float *slopes, size_t slopes_len);
+
+/* Makes the edit that was undone last again. Refusals 1, 3 to 5, 11. */
+menu_played menu_redo(menu_player player, const uint8_t *sheet, size_t sheet_len, float *frames, size_t frames_len,
+                      float *values, size_t values_len, float *slopes, size_t slopes_len);
+
+/* ---- readings: what the active animation makes of the book's panes and materials */
+
+/* One of the MENU_PANE_CHANNELS channels of a pane. Refusals 1 to 5, 7. */
+menu_read_one menu_read_pane(menu_player player, const uint8_t *sheet, size_t sheet_len, const uint8_t *book,
+                             size_t book_len, const float *frames, size_t frames_len, const float *values,
+                             size_t values_len, const float *slopes, size_t slopes_len, uint16_t pane,
+                             uint16_t channel);
+
+/* One of the MENU_MATERIAL_CHANNELS channels of a material. Refusals 1 to 5, 7. */
+menu_read_one menu_read_material(menu_player player, const uint8_t *sheet, size_t sheet_len, const uint8_t *book,
+                                 size_t book_len, const float *frames, size_t frames_len, const float *values,
+                                 size_t values_len, const float *slopes, size_t slopes_len, uint16_t material,
+                                 uint16_t channel);
+
+/* Every channel, panes first: a mark (0 or 1) and a number (0 where unmarked). Both outputs are MENU_PANE_CHANNELS a
+ * pane and MENU_MATERIAL_CHANNELS a material long. Refusals 1 to 5, 13. */
+uint8_t menu_read_all(menu_player player, const uint8_t *sheet, size_t sheet_len, const uint8_t *book, size_t book_len,
+                      const float *frames, size_t frames_len, const float *values, size_t values_len,
+                      const float *slopes, size_t slopes_len, uint8_t *marks, size_t marks_len, float *numbers,
+                      size_t numbers_len);
+
+/* A pane's transform, visibility and alpha. Refusals 1 to 5, 7. */
+menu_resolved_pane menu_resolve_pane(menu_player player, const uint8_t *sheet, size_t sheet_len, const uint8_t *book,
+                                     size_t book_len, const float *frames, size_t frames_len, const float *values,
+                                     size_t values_len, const float *slopes, size_t slopes_len, uint16_t pane);
+
+/* The SRT of a material's layer, 0 to 2. Refusals 1 to 5, 7. */
+menu_resolved_srt menu_resolve_srt(menu_player player, const uint8_t *sheet, size_t sheet_len, const uint8_t *book,
+                                   size_t book_len, const float *frames, size_t frames_len, const float *values,
+                                   size_t values_len, const float *slopes, size_t slopes_len, uint16_t material,
+                                   uint16_t layer);
+
+/* The name in a material's texture slot, 0 to 2, into MENU_NAME bytes: the sheet's where it is overridden, else the
+ * book's. Refusals 1 to 5, 7, 13. */
+uint8_t menu_texture_name(menu_player player, const uint8_t *sheet, size_t sheet_len, const uint8_t *book,
+                          size_t book_len, const float *frames, size_t frames_len, const float *values,
+                          size_t values_len, const float *slopes, size_t slopes_len, uint16_t material, uint16_t slot,
+                          uint8_t *out, size_t out_len);
+
+/* Each pane's visibility (0 or 1) and alpha under its parents, and the influence that it hands its children. The three
+ * outputs are as long as the book has panes. Refusals 1 to 5, 13. */
+uint8_t menu_cascade(menu_player player, const uint8_t *sheet, size_t sheet_len, const uint8_t *book, size_t book_len,
+                     const float *frames, size_t frames_len, const float *values, size_t values_len,
+                     const float *slopes, size_t slopes_len, uint8_t *visible, size_t visible_len, float *alpha,
+                     size_t alpha_len, float *influence, size_t influence_len);
+
+/* ---- texture coordinates and corners */
+
+/* Layers are 8 numbers each (u and v of top left, top right, bottom left, bottom right), SRTs 5 each (translate u, v,
+ * rotate, scale u, v), the output MENU_UVS numbers: corner by corner, layer by layer, u and v. A missing layer is the
+ * unit square; a layer without an SRT is left as it is. Refusals 8, 12, 13. */
+uint8_t menu_uvs(const float *layers, size_t layers_len, const float *srts, size_t srts_len, float *out,
+                 size_t out_len);
+
+/* The corners of a pane about its pivot. Origins: 0 centre, 1 left or top, 2 right or bottom. Refusals 7, 8, 12. */
+menu_placed menu_corners(menu_vector2 center, menu_vector2 size, uint8_t horizontal, uint8_t vertical,
+                         menu_vector3 rotation);
+
+/* Corners moved by delta. Refusal 8. */
+menu_placed menu_translate(menu_corners_set corners, menu_vector2 delta);
+
+/* A point about a centre, turned by three angles in degrees. Refusals 8, 12. */
+menu_turned menu_rotate_point(menu_vector2 point, menu_vector2 center, menu_vector3 rotation);
+
+#ifdef __cplusplus
+}
+#endif
+
+#endif

@@ -1,0 +1,175 @@
+/* Every call of menu.h on a small sheet and book, which the arguments name. Prints each assertion that fails. */
+#include "menu.h"
+
+#include <math.h>
+#include <stdio.h>
+#include <string.h>
+
+static int failed = 0;
+
+#define CHECK(claim)                                             \
+    do {                                                         \
+        if (!(claim)) {                                          \
+            printf("line %d: %s does not hold\n", __LINE__, #claim); \
+            failed = 1;                                          \
+        }                                                        \
+    } while (0)
+
+_Static_assert(sizeof(menu_journal) == 3584, "menu_journal");
+_Static_assert(sizeof(menu_player) == 3640, "menu_player");
+_Static_assert(sizeof(menu_played) == 3648, "menu_played");
+_Static_assert(sizeof(menu_ticked) == 3648, "menu_ticked");
+_Static_assert(sizeof(menu_read_one) == 8, "menu_read_one");
+_Static_assert(sizeof(menu_resolved_pane) == 48, "menu_resolved_pane");
+_Static_assert(sizeof(menu_resolved_srt) == 24, "menu_resolved_srt");
+_Static_assert(sizeof(menu_placed) == 36, "menu_placed");
+_Static_assert(sizeof(menu_turned) == 12, "menu_turned");
+
+enum { KEYS = 9, PANES = 2, CHANNELS = PANES * MENU_PANE_CHANNELS + MENU_MATERIAL_CHANNELS, TRACK = 3, KEY = 1, PLACE = 6 };
+
+static uint8_t sheet[31724], book[9604];
+static size_t sheet_len, book_len;
+static float frames[KEYS], values[KEYS], slopes[KEYS];
+
+#define LENT_KEYS frames, KEYS, values, KEYS, slopes, KEYS
+#define LENT sheet, sheet_len, book, book_len, LENT_KEYS
+
+static size_t read_file(const char *name, uint8_t *out, size_t most) {
+    FILE *file = fopen(name, "rb");
+    if (!file) {
+        printf("%s can't be opened\n", name);
+        failed = 1;
+        return 0;
+    }
+    size_t n = fread(out, 1, most, file);
+    fclose(file);
+    return n;
+}
+
+static menu_player playing(void) {
+    menu_played loaded = menu_load(sheet, sheet_len, LENT_KEYS);
+    CHECK(loaded.refusal == MENU_OK);
+    CHECK(loaded.player.selection == MENU_NONE && !loaded.player.playing && !loaded.player.preview);
+    CHECK(frames[PLACE] == 8 && values[PLACE] == 16 && slopes[PLACE] == 0);
+    CHECK(menu_load(sheet, sheet_len, frames, KEYS - 1, values, KEYS, slopes, KEYS).refusal == MENU_KEY_LENGTHS);
+
+    uint8_t name[MENU_NAME];
+    CHECK(menu_next_name(sheet, sheet_len, 0, name, MENU_NAME) == MENU_OK && memcmp(name, "Idle", 5) == 0);
+    CHECK(menu_next_name(sheet, sheet_len, 2, name, MENU_NAME) == MENU_ANIMATION);
+    CHECK(menu_next_name(sheet, sheet_len, 0, name, 23) == MENU_OUTPUT_LENGTH);
+
+    menu_played played = menu_play(loaded.player, sheet, sheet_len, 0);
+    CHECK(played.refusal == MENU_OK && played.player.playing && played.player.preview);
+    CHECK(menu_play(loaded.player, sheet, sheet_len, 2).refusal == MENU_ANIMATION);
+    menu_ticked ticked = menu_tick(played.player, sheet, sheet_len, 0.5f, 8);
+    CHECK(ticked.refusal == MENU_OK && ticked.answer == MENU_RUNNING && ticked.player.frame == 4);
+    CHECK(menu_tick(ticked.player, sheet, sheet_len, NAN, 8).refusal == MENU_NOT_FINITE);
+    ticked = menu_tick(ticked.player, sheet, sheet_len, 0.5f, 8);
+    CHECK(ticked.answer == MENU_NEXT && ticked.player.frame == 8 && !ticked.player.playing);
+
+    menu_played posed = menu_pose(ticked.player, sheet, sheet_len, 0, 4);
+    CHECK(posed.refusal == MENU_OK && posed.player.frame == 4 && posed.player.selection == 0);
+    return posed.player;
+}
+
+/* An edit of either kind, both undone, one made again, and undone. */
+static void editing(menu_player player) {
+    menu_played edited = menu_slope_edit(player, sheet, sheet_len, LENT_KEYS, TRACK, KEY, 0.5f);
+    CHECK(edited.refusal == MENU_OK && slopes[PLACE] == 0.5f);
+    edited = menu_key_edit(edited.player, sheet, sheet_len, LENT_KEYS, TRACK, KEY, 6, 20);
+    CHECK(edited.refusal == MENU_OK && frames[PLACE] == 6 && values[PLACE] == 20 && slopes[PLACE] == 0.5f);
+    CHECK(edited.player.reach == 2 && edited.player.accepted == 2 && edited.player.standing == 2);
+    const menu_journal *j = &edited.player.journal;
+    CHECK(j->track[1] == TRACK && j->key[1] == KEY);
+    CHECK(j->before_frame[1] == 8 && j->before_value[1] == 16 && j->before_slope[0] == 0);
+    CHECK(j->after_frame[1] == 6 && j->after_value[1] == 20 && j->after_slope[0] == 0.5f);
+    CHECK(menu_slope_edit(edited.player, sheet, sheet_len, LENT_KEYS, 0, 0, 1).refusal == MENU_NOT_HERMITE);
+
+    menu_played undone = menu_undo(edited.player, sheet, sheet_len, LENT_KEYS);
+    CHECK(undone.refusal == MENU_OK && frames[PLACE] == 8 && values[PLACE] == 16 && slopes[PLACE] == 0.5f);
+    undone = menu_undo(undone.player, sheet, sheet_len, LENT_KEYS);
+    CHECK(undone.player.redo == 2 && undone.player.undone == 2 && slopes[PLACE] == 0);
+    CHECK(menu_undo(undone.player, sheet, sheet_len, LENT_KEYS).refusal == MENU_NOTHING_TO_RETURN);
+    menu_played redone = menu_redo(undone.player, sheet, sheet_len, LENT_KEYS);
+    CHECK(redone.refusal == MENU_OK && slopes[PLACE] == 0.5f && redone.player.redone == 1);
+    undone = menu_undo(redone.player, sheet, sheet_len, LENT_KEYS);
+    CHECK(undone.player.reach == 0 && undone.player.redo == 2 && undone.player.undone == 3);
+    CHECK(undone.player.accepted == 2 && undone.player.redone == 1 && undone.player.standing == 0);
+}
+
+static void readings(menu_player player) {
+    menu_read_one one = menu_read_pane(player, LENT, 1, 0);
+    CHECK(one.refusal == MENU_OK && one.kind == MENU_NUMBER && one.number == 8);
+    one = menu_read_pane(player, LENT, 1, 10);
+    CHECK(one.kind == MENU_SHOWN && one.number == 1);
+    CHECK(menu_read_pane(player, LENT, 1, 1).kind == MENU_NOTHING);
+    CHECK(menu_read_pane(player, LENT, PANES, 0).refusal == MENU_NO_SUCH);
+    one = menu_read_material(player, LENT, 0, 15);
+    CHECK(one.kind == MENU_ROW && one.number == 1);
+    one = menu_read_material(player, LENT, 0, 22);
+    CHECK(one.kind == MENU_LEVEL && one.number == 200);
+
+    uint8_t marks[CHANNELS];
+    float numbers[CHANNELS];
+    CHECK(menu_read_all(player, LENT, marks, CHANNELS, numbers, CHANNELS) == MENU_OK);
+    CHECK(marks[28] == 1 && numbers[28] == 8 && marks[29] == 0 && numbers[29] == 0);
+    CHECK(menu_read_all(player, LENT, marks, CHANNELS, numbers, CHANNELS - 1) == MENU_OUTPUT_LENGTH);
+
+    menu_resolved_pane pane = menu_resolve_pane(player, LENT, 1);
+    CHECK(pane.refusal == MENU_OK && pane.visible && pane.alpha == 0.2f);
+    CHECK(pane.translation.x == 8 && pane.translation.y == 2 && pane.translation.z == 3);
+    CHECK(pane.rotation.x == 4 && pane.rotation.y == 5 && pane.rotation.z == 6);
+    CHECK(pane.scale.x == 7 && pane.scale.y == 8 && pane.size.x == 9 && pane.size.y == 10);
+    menu_resolved_srt srt = menu_resolve_srt(player, LENT, 0, 1);
+    CHECK(srt.refusal == MENU_OK && srt.translate.x == 6 && srt.translate.y == 7 && srt.rotate == 8);
+    CHECK(srt.scale.x == 9 && srt.scale.y == 10);
+
+    uint8_t name[MENU_NAME];
+    CHECK(menu_texture_name(player, LENT, 0, 0, name, MENU_NAME) == MENU_OK && memcmp(name, "night", 6) == 0);
+    CHECK(menu_texture_name(player, LENT, 0, 3, name, MENU_NAME) == MENU_NO_SUCH);
+    CHECK(menu_texture_name(player, LENT, 0, 0, name, 23) == MENU_OUTPUT_LENGTH);
+
+    uint8_t visible[PANES];
+    float alpha[PANES], influence[PANES];
+    CHECK(menu_cascade(player, LENT, visible, PANES, alpha, PANES, influence, PANES) == MENU_OK);
+    CHECK(visible[0] == 1 && visible[1] == 1 && alpha[0] == 1 && alpha[1] == 0.2f && influence[1] == 0.2f);
+    CHECK(menu_cascade(player, LENT, visible, PANES, alpha, PANES, influence, 1) == MENU_OUTPUT_LENGTH);
+}
+
+static void shapes(void) {
+    menu_vector2 center = {10, 20}, size = {4, 2}, delta = {100, 200};
+    menu_vector3 still = {0, 0, 0}, steep = {0, 3601, 0};
+    menu_placed placed = menu_corners(center, size, 0, 0, still);
+    CHECK(placed.refusal == MENU_OK);
+    CHECK(placed.corners.top_left.x == 8 && placed.corners.top_left.y == 19);
+    CHECK(placed.corners.top_right.x == 12 && placed.corners.top_right.y == 19);
+    CHECK(placed.corners.bottom_left.x == 8 && placed.corners.bottom_left.y == 21);
+    CHECK(placed.corners.bottom_right.x == 12 && placed.corners.bottom_right.y == 21);
+    CHECK(menu_corners(center, size, 1, 2, still).corners.top_left.y == 18);
+    CHECK(menu_corners(center, size, 0, 3, still).refusal == MENU_NO_SUCH);
+    CHECK(menu_corners(center, size, 0, 0, steep).refusal == MENU_ANGLE);
+    placed = menu_translate(placed.corners, delta);
+    CHECK(placed.refusal == MENU_OK && placed.corners.top_left.x == 108 && placed.corners.bottom_right.y == 221);
+    menu_turned turned = menu_rotate_point(size, center, still);
+    CHECK(turned.refusal == MENU_OK && turned.point.x == 14 && turned.point.y == 22);
+    CHECK(menu_rotate_point(size, center, steep).refusal == MENU_ANGLE);
+
+    float square[8] = {0, 0, 1, 0, 0, 1, 1, 1}, srt[5] = {0.25f, 0, 0, 2, 1}, uvs[MENU_UVS];
+    CHECK(menu_uvs(square, 8, srt, 5, uvs, MENU_UVS) == MENU_OK && uvs[6] == 1.75f && uvs[7] == 0);
+    CHECK(menu_uvs(square, 7, srt, 5, uvs, MENU_UVS) == MENU_NOT_FINITE);
+    CHECK(menu_uvs(square, 8, srt, 5, uvs, MENU_UVS - 1) == MENU_OUTPUT_LENGTH);
+}
+
+int main(int count, char **arguments) {
+    if (count != 3) {
+        printf("the sheet and the book are to be named\n");
+        return 2;
+    }
+    sheet_len = read_file(arguments[1], sheet, sizeof sheet);
+    book_len = read_file(arguments[2], book, sizeof book);
+    menu_player player = playing();
+    readings(player);
+    editing(player);
+    shapes();
+    return failed;
+}

@@ -1,0 +1,119 @@
+//! Each refusal, and that it changes nothing.
+
+use dovebolt::raw::NONE;
+use dovebolt::{Keys, Player, Refusal, Vector2f, Vector3f, corners, example, uvs_into};
+
+type Call = fn(&mut Player, &[u8], &mut Keys) -> Result<(), Refusal>;
+
+/// One call for each refusal, on a player that holds animation 0 at frame 2 and has one edit to undo.
+const CALLS: [(Refusal, Call); 13] = [
+    (Refusal::Sheet, |p, _, _| p.play(b"no sheet", Some(0))),
+    (Refusal::Book, |p, s, k| {
+        p.read_all(s, b"no book", k).map(drop)
+    }),
+    (Refusal::KeyLengths, |p, s, k| {
+        let mut short = k.clone();
+        short.slopes.pop();
+        p.undo(s, &mut short)
+    }),
+    (Refusal::KeyRules, |p, s, k| {
+        let mut falling = k.clone();
+        falling.frames[6] = falling.frames[5] - 1.0;
+        p.undo(s, &mut falling)
+    }),
+    (Refusal::State, |p, s, _| {
+        let mut state = *p.as_raw();
+        state.reach = 129;
+        Player::from_raw(state).play(s, Some(0))
+    }),
+    (Refusal::Animation, |p, s, _| p.play(s, Some(2))),
+    (Refusal::NoSuch, |p, s, k| p.key_edit(s, k, 4, 0, 1.0, 1.0)),
+    (Refusal::NotFinite, |p, s, _| {
+        p.pose(s, Some(0), f32::INFINITY)
+    }),
+    (Refusal::Overtakes, |p, s, k| {
+        let mut early = k.clone();
+        (early.frames[5], early.frames[6]) = (-5.0, -1.0);
+        p.key_edit(s, &mut early, 3, 0, -4.0, 0.0)
+    }),
+    (Refusal::NotHermite, |p, s, k| p.slope_edit(s, k, 0, 0, 1.0)),
+    (Refusal::NothingToReturn, |p, s, k| p.redo(s, k)),
+    (Refusal::Angle, |_, _, _| {
+        let steep = Vector3f {
+            x: 0.0,
+            y: -3600.5,
+            z: 0.0,
+        };
+        corners(Vector2f::default(), Vector2f::default(), 0, 0, steep).map(drop)
+    }),
+    (Refusal::OutputLength, |_, _, _| {
+        uvs_into(&[], &[], &mut [0.0; 23])
+    }),
+];
+
+#[test]
+fn each_is_reached_and_changes_nothing() {
+    let sheet = example::sheet();
+    let (mut player, mut keys) = Player::load(&sheet).unwrap();
+    player.pose(&sheet, Some(0), 2.0).unwrap();
+    player.key_edit(&sheet, &mut keys, 3, 1, 6.0, 20.0).unwrap();
+    let (was, were) = (player.clone(), keys.clone());
+    for (refusal, call) in CALLS {
+        assert_eq!(call(&mut player, &sheet, &mut keys), Err(refusal));
+        assert_eq!((&player, &keys), (&was, &were), "after {refusal}");
+    }
+}
+
+#[test]
+fn numbers_go_from_1_to_13() {
+    let numbers: Vec<u8> = Refusal::ALL.iter().map(|r| r.number()).collect();
+    assert_eq!(numbers, (1..=13).collect::<Vec<u8>>());
+    for refusal in Refusal::ALL {
+        assert_eq!(Refusal::from_number(refusal.number()), Some(refusal));
+        assert!(
+            refusal
+                .to_string()
+                .starts_with(&format!("refusal {}: ", refusal.number()))
+        );
+    }
+    assert_eq!(
+        (Refusal::from_number(0), Refusal::from_number(14)),
+        (None, None)
+    );
+}
+
+#[test]
+fn outputs_of_any_length_are_answered() {
+    let (sheet, book) = (example::sheet(), example::book());
+    let (player, keys) = Player::load(&sheet).unwrap();
+    for length in [0, 23, 25] {
+        let mut out = vec![7; length];
+        let declined = player.texture_name_into(&sheet, &book, &keys, 0, 0, &mut out);
+        assert_eq!(declined, Err(Refusal::OutputLength));
+        assert_eq!(
+            dovebolt::next_name_into(&sheet, 0, &mut out),
+            Err(Refusal::OutputLength)
+        );
+        assert_eq!(out, vec![7; length]);
+    }
+    // The refusal of reading the slot comes first.
+    assert_eq!(
+        player.texture_name_into(&sheet, &book, &keys, 0, 3, &mut []),
+        Err(Refusal::NoSuch)
+    );
+    assert_eq!(
+        dovebolt::next_name_into(&sheet, NONE, &mut []),
+        Err(Refusal::Animation)
+    );
+    let declined = player.cascade_into(
+        &sheet,
+        &book,
+        &keys,
+        &mut [9; 2],
+        &mut [9.0; 2],
+        &mut [9.0; 3],
+    );
+    assert_eq!(declined, Err(Refusal::OutputLength));
+    let declined = player.read_all_into(&sheet, &book, &keys, &mut [9; 86], &mut [9.0; 85]);
+    assert_eq!(declined, Err(Refusal::OutputLength));
+}
