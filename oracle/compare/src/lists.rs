@@ -4,8 +4,11 @@
 use crate::ours::Ours;
 use cases::calls::held::Held;
 use cases::calls::player::ROWS;
+use cases::calls::short;
 use cases::calls::walk::{Step, Walk};
 use cases::calls::{Answer, Call};
+use cases::random::Random;
+use cases::sheets::damage;
 
 /// By a call's code.
 const KINDS: [&str; 15] = [
@@ -68,6 +71,23 @@ impl Counts {
         self.plain += u64::from(walk.is_plain());
         self.differ += u64::from(difference.is_some());
         difference.map(|what| Difference { seed, steps, what })
+    }
+
+    /// Every short list, and the first difference.
+    pub fn each_short_list(&mut self) -> Option<String> {
+        let (sheet, book) = damage::base_pair();
+        for number in 0..short::COUNT {
+            let mut walk = Walk::new(Random::new(0), &sheet, &book, 0);
+            let mut ours = Ours::load(&walk.held.sheet_bytes);
+            for call in short::list(number) {
+                let step = walk.call(call);
+                let difference = self.step(&step, &walk, &mut ours);
+                if let Some(what) = difference {
+                    return Some(format!("{:?}: {what}", short::list(number)));
+                }
+            }
+        }
+        None
     }
 
     fn step(&mut self, step: &Step, walk: &Walk, ours: &mut Ours) -> Option<String> {

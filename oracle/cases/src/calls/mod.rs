@@ -10,6 +10,7 @@ pub mod player;
 pub mod readings;
 pub mod reference;
 pub mod sample;
+pub mod short;
 pub mod some;
 pub mod spoil;
 pub mod table;

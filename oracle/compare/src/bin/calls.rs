@@ -1,24 +1,41 @@
 //! `calls COUNT SEED`: lists of calls on the plain machine, whose calls mean what
 //! the published text says, beside the proved player: every answer and output,
-//! all keys and the whole player after each. First every field, journal row and
-//! key spoiled alone, then random lists, until COUNT of their calls were
-//! compared. `calls 0 SEED` runs the one list of that seed, and tells its steps.
+//! all keys and the whole player after each. First every short list over a few
+//! calls; then every field, journal row and key spoiled alone; then random
+//! lists, until COUNT of their calls were compared. `calls 0 SEED` runs the one
+//! random list of that seed, and tells its steps.
 
+use cases::calls::short;
 use cases::random::Random;
 use compare::arguments::Arguments;
 use compare::lists::{Counts, Difference};
 
 fn main() {
     let Arguments { count, seed } = Arguments::read(1_000_000);
-    if count > 0 {
-        spoiled_alone();
-    }
     let mut counts = Counts::default();
-    let mut smallest: Option<Difference> = None;
     if count == 0 {
-        smallest = counts.run(seed, |step| println!("{step:?}"));
+        let found = counts.run(seed, |step| println!("{step:?}"));
+        report(&counts, "one list", found.map(|d| d.what));
+        return;
     }
+    let found = counts.each_short_list();
+    report(&counts, &format!("{} short lists", short::COUNT), found);
+
+    let mut counts = Counts::default();
+    let found = counts.each_spoil_alone();
+    report(&counts, "each thing spoiled alone", found);
+
+    let mut counts = Counts::default();
+    let found = random_lists(&mut counts, count, seed);
+    counts.print_lists();
+    report(&counts, &format!("random lists, seed {seed}"), found);
+}
+
+/// Random lists until so many calls were made; of those that differ, the one
+/// that does so after the fewest steps.
+fn random_lists(counts: &mut Counts, count: u64, seed: u64) -> Option<String> {
     let mut seeds = Random::new(seed);
+    let mut smallest: Option<Difference> = None;
     while counts.calls < count {
         let found = counts.run(seeds.word(), |_| {});
         let before = smallest.as_ref().map_or(usize::MAX, |d| d.steps);
@@ -26,29 +43,19 @@ fn main() {
             smallest = found;
         }
     }
-    counts.print_lists();
-    counts.print_calls();
-    if let Some(Difference { seed, steps, what }) = smallest {
-        println!(
-            "{} lists differ; the smallest has seed {seed}",
-            counts.differ
-        );
-        println!("at step {steps}: {what}");
-        std::process::exit(1);
-    }
-    println!("calls, seed {seed}: {} compared, none differ", counts.calls);
+    let differ = counts.differ;
+    smallest.map(|Difference { seed, steps, what }| {
+        format!("{differ} lists; the smallest has seed {seed}, at step {steps}: {what}")
+    })
 }
 
-fn spoiled_alone() {
-    let mut counts = Counts::default();
-    let found = counts.each_spoil_alone();
+/// Tells how many calls there were of each kind and of each refusal. A run with
+/// a difference fails.
+fn report(counts: &Counts, what: &str, differs: Option<String>) {
     counts.print_calls();
-    if let Some(what) = found {
-        println!("differs: {what}");
+    if let Some(difference) = differs {
+        println!("{what}: differs in {difference}");
         std::process::exit(1);
     }
-    println!(
-        "spoiled alone: {} calls compared, none differ",
-        counts.calls
-    );
+    println!("{what}: {} calls compared, none differ", counts.calls);
 }
