@@ -1,5 +1,6 @@
 //! Every field of the player, every row of the journal, every key and every
-//! length spoiled alone, in a few states, with a call of every kind.
+//! length spoiled alone, and several of rows 1 to 5 broken at once, in a few
+//! states, with calls of every kind.
 
 use super::held::Held;
 use super::player::{Player, ROWS};
@@ -134,7 +135,34 @@ pub fn spoils(held: &Held) -> Vec<Vec<Spoil>> {
         .chain(keys(held))
         .chain(lent(held));
     let single = single.map(|spoil| vec![spoil]);
-    single.chain(agreeing(&held.player)).collect()
+    let pairs = agreeing(&held.player);
+    single.chain(pairs).chain(together(held)).collect()
+}
+
+/// Several of rows 1 to 5 broken at once: the lowest number declines.
+fn together(held: &Held) -> impl Iterator<Item = Vec<Spoil>> {
+    let broken = [
+        Spoil::Sheet(cut(&held.sheet_bytes)),
+        Spoil::Book(cut(&held.book.bytes)),
+        Spoil::Short(1),
+        Spoil::Key {
+            array: 1,
+            index: 0,
+            bits: NUMBERS[0],
+        },
+        field(spoil::FRAME, 0, u64::from(NUMBERS[0])),
+    ];
+    let subsets = (0u32..1 << broken.len()).filter(|set| set.count_ones() > 1);
+    subsets.map(move |set| {
+        let chosen = broken.iter().enumerate();
+        let chosen = chosen.filter(|(i, _)| set >> i & 1 == 1);
+        chosen.map(|(_, spoil)| spoil.clone()).collect()
+    })
+}
+
+/// Without the last byte.
+fn cut(bytes: &[u8]) -> Vec<u8> {
+    bytes[..bytes.len() - 1].to_vec()
 }
 
 fn field(field: u8, row: usize, value: u64) -> Spoil {
@@ -272,7 +300,6 @@ fn keys(held: &Held) -> impl Iterator<Item = Spoil> {
 
 /// What is lent beside the player: the key arrays' lengths, sheet and book.
 fn lent(held: &Held) -> impl Iterator<Item = Spoil> {
-    let cut = |bytes: &[u8]| bytes[..bytes.len() - 1].to_vec();
     let longer = |bytes: &[u8]| [bytes, &[0]].concat();
     let (s, b) = (&held.sheet_bytes, &held.book.bytes);
     let bytes = [
