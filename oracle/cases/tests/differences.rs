@@ -6,7 +6,9 @@ use cases::calls::{Request, View};
 use cases::curves::{HERMITE, Keys};
 use cases::format::load::Arrays;
 use cases::sheets::damage;
-use published::anim_state::eval_curve;
+use published::anim_state::{AnimPlayer, eval_curve};
+use published::bflan::file::Bflan;
+use published::ui::timeline::{PendingSlopeEdit, TimelineTrack};
 
 /// The base's first track is a Hermite curve with three keys.
 fn with_frames(frames: [f32; 3]) -> (Reference, Arrays) {
@@ -62,6 +64,35 @@ fn a_slope_of_a_step() {
     let mut after = keys.clone();
     reference.take_all(&mut after);
     assert_eq!(after, keys);
+}
+
+/// Refused with 7: the text does nothing.
+#[test]
+fn an_edit_of_no_key() {
+    let (mut reference, keys) = with_frames([0.0, 4.0, 8.0]);
+    let (frame, value) = (9.0, 9.0);
+    reference.edit(0, 0, 3, Request::Key { frame, value });
+    let mut after = keys.clone();
+    reference.take_all(&mut after);
+    assert_eq!(after, keys);
+}
+
+/// Refused with 6: the text does nothing.
+#[test]
+fn an_edit_with_nothing_selected() {
+    let mut player = AnimPlayer::new();
+    player.load(Bflan::default(), None);
+    player.apply_slope_edit(&PendingSlopeEdit {
+        track: TimelineTrack {
+            label: String::new(),
+            content_idx: 0,
+            info_idx: 0,
+            target_idx: 0,
+        },
+        key_idx: 0,
+        slope: 1.0,
+    });
+    assert!(player.active.is_none());
 }
 
 /// Refused with 6.
