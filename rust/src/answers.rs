@@ -29,6 +29,19 @@ pub enum Tick {
 }
 
 /// What one channel reads.
+///
+/// ```
+/// use dovebolt::{Player, Reading, example};
+///
+/// let (sheet, book) = (example::sheet(), example::book());
+/// let (mut player, keys) = Player::load(&sheet)?;
+/// player.pose(&sheet, Some(0), 4.0)?;
+/// match player.read_pane(&sheet, &book, &keys, 1, 0)? {
+///     Reading::Number(x) => assert_eq!(x, 8.0),
+///     other => panic!("{other:?}"),
+/// }
+/// # Ok::<(), dovebolt::Refusal>(())
+/// ```
 #[derive(Clone, Copy, Debug, PartialEq)]
 pub enum Reading {
     /// No override.
@@ -58,6 +71,11 @@ pub struct Channels {
 
 impl Channels {
     /// The number of a channel that is overridden.
+    ///
+    /// ```
+    /// let all = dovebolt::Channels { marks: vec![1, 0], numbers: vec![0.0, 0.0] };
+    /// assert_eq!((all.get(0), all.get(1), all.get(2)), (Some(0.0), None, None));
+    /// ```
     pub fn get(&self, channel: usize) -> Option<f32> {
         let mark = *self.marks.get(channel)?;
         (mark == 1).then(|| self.numbers[channel])
@@ -65,6 +83,17 @@ impl Channels {
 }
 
 /// A pane's place: the override, or else the book's.
+///
+/// ```
+/// use dovebolt::{Player, example};
+///
+/// let (sheet, book) = (example::sheet(), example::book());
+/// let (mut player, keys) = Player::load(&sheet)?;
+/// player.pose(&sheet, Some(0), 4.0)?;
+/// let place = player.resolve_pane(&sheet, &book, &keys, 1)?.transform;
+/// assert_eq!((place.translation.x, place.rotation.z, place.scale.y, place.size.x), (8.0, 6.0, 8.0, 9.0));
+/// # Ok::<(), dovebolt::Refusal>(())
+/// ```
 #[derive(Clone, Copy, Debug, Default, PartialEq)]
 pub struct Transform {
     pub translation: Vector3f,
@@ -74,6 +103,17 @@ pub struct Transform {
 }
 
 /// A pane with its overrides.
+///
+/// ```
+/// use dovebolt::{Player, example};
+///
+/// let (sheet, book) = (example::sheet(), example::book());
+/// let (mut player, keys) = Player::load(&sheet)?;
+/// player.pose(&sheet, Some(0), 4.0)?;
+/// let logo = player.resolve_pane(&sheet, &book, &keys, 1)?;
+/// assert_eq!((logo.visible, logo.alpha), (true, 0.2));
+/// # Ok::<(), dovebolt::Refusal>(())
+/// ```
 #[derive(Clone, Copy, Debug, PartialEq)]
 pub struct ResolvedPane {
     pub visible: bool,
@@ -82,6 +122,17 @@ pub struct ResolvedPane {
 }
 
 /// A material layer's texture transform with its overrides.
+///
+/// ```
+/// use dovebolt::{Player, Srt, example};
+///
+/// let (sheet, book) = (example::sheet(), example::book());
+/// let (mut player, keys) = Player::load(&sheet)?;
+/// player.pose(&sheet, Some(0), 4.0)?;
+/// let Srt { translate, rotate, scale } = player.resolve_srt(&sheet, &book, &keys, 0, 0)?;
+/// assert_eq!((translate.x, translate.y, rotate, scale.x, scale.y), (1.0, 2.0, 3.0, 4.0, 5.0));
+/// # Ok::<(), dovebolt::Refusal>(())
+/// ```
 #[derive(Clone, Copy, Debug, Default, PartialEq)]
 pub struct Srt {
     pub translate: Vector2f,
@@ -90,6 +141,17 @@ pub struct Srt {
 }
 
 /// A pane under its parents, and the influence that it hands its children.
+///
+/// ```
+/// use dovebolt::{Player, example};
+///
+/// let (sheet, book) = (example::sheet(), example::book());
+/// let (mut player, keys) = Player::load(&sheet)?;
+/// player.pose(&sheet, Some(0), 4.0)?;
+/// let logo = player.cascade(&sheet, &book, &keys)?[1];
+/// assert_eq!((logo.visible, logo.alpha, logo.influence), (true, 0.2, 0.2));
+/// # Ok::<(), dovebolt::Refusal>(())
+/// ```
 #[derive(Clone, Copy, Debug, PartialEq)]
 pub struct Cascaded {
     pub visible: bool,

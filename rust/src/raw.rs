@@ -1,7 +1,23 @@
 //! The exports of the proved library as they are: structs of numbers by value, a slice as a pointer and a length.
 //!
 //! Each function asks only that a pointer has as many elements as the length after it says, and that no lent output
-//! overlaps another argument. `refusal` is 0, or a number of [`crate::Refusal`].
+//! overlaps another argument. `refusal` is 0, or a number of [`crate::Refusal`]. `include/menu.h` says what each does.
+//!
+//! ```
+//! use dovebolt::{example, raw};
+//!
+//! let sheet = example::sheet();
+//! let (mut frames, mut values, mut slopes) = ([0.0; 9], [0.0; 9], [0.0; 9]);
+//! // SAFETY: each pointer is followed by its array's length.
+//! let loaded = unsafe {
+//!     raw::menu_load(
+//!         sheet.as_ptr(), sheet.len(),
+//!         frames.as_mut_ptr(), 9, values.as_mut_ptr(), 9, slopes.as_mut_ptr(), 9,
+//!     )
+//! };
+//! assert_eq!((loaded.refusal, loaded.player.selection), (0, raw::NONE));
+//! assert_eq!(values[6], 16.0);
+//! ```
 
 /// The number that selects nothing.
 pub const NONE: u16 = 65535;

@@ -12,6 +12,10 @@ use Rattle.player.specs.Keys.{Keys}
 use Rattle.menu.specs.Calls.{nextNameOf}
 use Rattle.menu.specs.Readings.{checkBook, layerRest, textureNameOf}
 
+-- a name's field (document 01, "Sheet and book")
+abbrev pub nameBytes : ℕ
+nameBytes = 24
+
 -- what a call gives, and leaves in its output
 pub record NameOut : Type 0 where
   pub refusal : ℕ
@@ -23,7 +27,7 @@ gaveName n o = record { refusal = n; out = o }
 -- the name, where neither n nor row 13 declines
 unfoldable pub nameInto : ℕ → List ℕ → List ℕ → NameOut
 nameInto n name o =
-    let m = unless (eqb n 0) n (unless (eqb (length o) (length name)) 13 0) in
+    let m = unless (eqb n 0) n (unless (eqb (length o) nameBytes) 13 0) in
     record { refusal = m; out = cond (eqb m 0) name o }
 
 -- rows 1 and 6: the sheet, and an animation from A up

@@ -1,15 +1,19 @@
 // Names, which the calls of `menu` hand back as a part of the sheet or of the book, copied into a lent output.
 use player::Player;
 ghost use mathlib.Core.Path.{_≡_};
+ghost use lib.ListN.{length};
 ghost use Rattle.player.specs.Keys.{keys};
 ghost use Rattle.menu.specs.Readings.{checkBook, layerRest};
-ghost use Rattle.menu_c.specs.Naming.{gaveName, nameInto, nextRefusal, nextNameInto, textureNameInto};
+ghost use Rattle.menu_c.specs.Naming.{nameBytes, gaveName, nameInto, nextRefusal, nextNameInto, textureNameInto};
 
-// 13 where the output is not as long as the name.
+// A name's field.
+const NAME: usize = 24;
+
 fn hand_out(name: &[u8], out: &mut [u8]) -> u8
+    requires { ⌜ length (now name) ≡ nameBytes ⌝ }
     ensures { λ r. ⌜ gaveName r (now (out .exit)) ≡ nameInto 0 (now (name .entry)) (now (out .entry)) ⌝ }
 {
-    if out.len() != name.len() {
+    if out.len() != NAME {
         return 13;
     }
     bytes::copy(name, out);

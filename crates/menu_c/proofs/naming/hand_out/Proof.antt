@@ -13,7 +13,7 @@ same-length : tie.Need-same-length
 same-length c = search needs
 
 returns-2 : tie.Need-returns-2
-returns-2 c = handed _ _ (c .before .before .before .before .if1 .left) (c .before .before .copy .ensures .1)
+returns-2 c = handed _ _ (c .before .before .before .before .before .before .before .pre) (c .before .before .before .before .if1 .left) (c .before .before .copy .ensures .1)
 
 pub hand-out-spec : {M : Type 1} → statement M
 hand-out-spec = tie.close (tie.spec returns copy-requires same-length returns-2)

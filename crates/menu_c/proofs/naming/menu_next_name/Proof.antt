@@ -1,3 +1,6 @@
+use mathlib.Core.Path.{sym, _∙_, ap}
+use lib.ListN.{length}
+use Rattle.menu_c.specs.Long.{next-long}
 use Rattle.menu_c.specs.Naming.{nextNameInto}
 use Rattle.menu_c.proofs.Handed.{into-refused, into-given}
 use borrow.Author.Needs.{needs}
@@ -15,7 +18,7 @@ next-name-requires : tie.Need-next-name-requires
 next-name-requires c κs = search needs
 
 hand-out-requires : tie.Need-hand-out-requires
-hand-out-requires c κs = search needs
+hand-out-requires c κs = ap length (c .before .next-name .ensures) ∙ next-long _ _ (sym (c .before .before .before .next-refusal .ensures) ∙ c .before .before .if1 .left)
 
 same-length : tie.Need-same-length
 same-length c = search needs

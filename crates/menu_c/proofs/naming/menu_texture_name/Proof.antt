@@ -1,3 +1,6 @@
+use mathlib.Core.Path.{sym, _∙_, ap}
+use lib.ListN.{length}
+use Rattle.menu_c.specs.Long.{texture-long}
 use Rattle.menu_c.specs.Naming.{textureNameInto}
 use Rattle.menu_c.proofs.Handed.{into-refused, into-given}
 use borrow.Author.Needs.{needs}
@@ -15,7 +18,7 @@ texture-name-requires : tie.Need-texture-name-requires
 texture-name-requires c κs = search needs
 
 hand-out-requires : tie.Need-hand-out-requires
-hand-out-requires c κs = search needs
+hand-out-requires c κs = ap length (c .before .texture-name .ensures) ∙ texture-long _ _ _ _ _ _ (sym (c .before .before .before .slot-refusal .ensures) ∙ c .before .before .if1 .left)
 
 same-length : tie.Need-same-length
 same-length c = search needs
