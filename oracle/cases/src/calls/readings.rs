@@ -2,7 +2,7 @@
 
 use super::reference::Reference;
 use super::{Answer, Call, FILL_BITS, FILL_BYTE, One, Tick, Told, View, lent_length, table};
-use crate::format::book::Book;
+use crate::format::book::{Book, Material};
 use crate::format::sheet::Sheet;
 use crate::readings::published_form as form;
 use crate::readings::whole::{self, MATERIAL_CHANNELS, PANE_CHANNELS};
@@ -92,58 +92,58 @@ pub fn answer(
 
 fn told(sheet: &Sheet, book: &Book, state: AnimationState, call: &Call) -> Told {
     match *call {
-        Call::ReadPane { pane, channel } => {
-            let pane = whole::pane(&state, usize::from(pane));
-            let channel = usize::from(channel);
-            Told::One(pane_reading(channel, whole::pane_channels(&pane)[channel]))
+        Call::ReadPane { pane, .. } | Call::ResolvePane(pane) => {
+            pane_told(book, &state, usize::from(pane), call)
         }
-        Call::ReadMaterial { material, channel } => {
-            let row = &book.materials[usize::from(material)];
-            let material = whole::material(&state, row);
-            let channel = usize::from(channel);
-            Told::One(material_reading(
-                channel,
-                whole::material_channels(&material)[channel],
-            ))
+        Call::ReadMaterial { material, .. }
+        | Call::ResolveSrt { material, .. }
+        | Call::TextureName { material, .. } => {
+            material_told(sheet, &book.materials[usize::from(material)], &state, call)
         }
         Call::ReadAll { .. } => {
             let whole::Reading { marks, numbers } = whole::reading(book, &state);
             Told::All { marks, numbers }
         }
-        Call::ResolvePane(pane) => {
-            let row = &book.panes[usize::from(pane)];
-            let pane = whole::pane(&state, usize::from(pane));
-            let (visible, alpha) = whole::own_look(row, &pane);
-            let transform = whole::transform(row, &pane);
-            Told::Pane {
-                visible,
-                alpha,
-                transform,
+        Call::Cascade { .. } => {
+            let cascade = whole::cascade(book, state);
+            Told::Cascade {
+                visible: cascade.visible,
+                alpha: cascade.alpha,
+                influence: cascade.handed,
             }
         }
-        Call::ResolveSrt { material, layer } => {
-            let row = &book.materials[usize::from(material)];
-            let material = whole::material(&state, row);
-            Told::Srt(whole::srt(row, &material, usize::from(layer)))
+        _ => Told::Done,
+    }
+}
+
+fn pane_told(book: &Book, state: &AnimationState, row: usize, call: &Call) -> Told {
+    let pane = whole::pane(state, row);
+    if let Call::ReadPane { channel, .. } = *call {
+        let channel = usize::from(channel);
+        return Told::One(pane_reading(channel, whole::pane_channels(&pane)[channel]));
+    }
+    let (visible, alpha) = whole::own_look(&book.panes[row], &pane);
+    Told::Pane {
+        visible,
+        alpha,
+        transform: whole::transform(&book.panes[row], &pane),
+    }
+}
+
+fn material_told(sheet: &Sheet, row: &Material, state: &AnimationState, call: &Call) -> Told {
+    let material = whole::material(state, row);
+    match *call {
+        Call::ReadMaterial { channel, .. } => {
+            let channel = usize::from(channel);
+            let read = whole::material_channels(&material)[channel];
+            Told::One(material_reading(channel, read))
         }
-        Call::TextureName { material, slot } => {
-            let row = &book.materials[usize::from(material)];
+        Call::ResolveSrt { layer, .. } => Told::Srt(whole::srt(row, &material, usize::from(layer))),
+        Call::TextureName { slot, .. } => {
             let slot = usize::from(slot);
-            let over = whole::texture_row(&whole::material(&state, row).texture_names[slot]);
+            let over = whole::texture_row(&material.texture_names[slot]);
             let name = over.map_or(row.textures[slot], |over| sheet.textures[over]);
             Told::Name(name.to_vec())
-        }
-        Call::Cascade { .. } => {
-            let whole::Cascade {
-                visible,
-                alpha,
-                handed,
-            } = whole::cascade(book, state);
-            Told::Cascade {
-                visible,
-                alpha,
-                influence: handed,
-            }
         }
         _ => Told::Done,
     }
