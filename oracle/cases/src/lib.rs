@@ -3,6 +3,7 @@
 //! a seed.
 
 pub mod bits;
+pub mod calls;
 pub mod curves;
 pub mod format;
 pub mod geometry;

@@ -93,7 +93,7 @@ fn the_rust_reads_as_document_01_says() {
     let mut material_marks = [0; MATERIAL_CHANNELS];
     for _ in 0..100_000 {
         let case = some::case(&mut random);
-        let reading = whole::answer(&case).reading;
+        let reading = whole::reading(&case.book, &whole::state(&case));
         assert_eq!(reading, plain_reading(&case), "{case:?}");
         let (panes, materials) = reading
             .marks

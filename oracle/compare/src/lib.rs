@@ -1,5 +1,8 @@
 //! Runs of the published Rust beside this repository's proved code.
 
+pub mod alone;
 pub mod arguments;
+pub mod lists;
+pub mod ours;
 pub mod probe;
 pub mod tally;

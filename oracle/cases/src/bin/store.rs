@@ -2,7 +2,7 @@
 //! seeds stand here, so the same bytes come out each time:
 //! `cargo run --release -p cases --bin store -- ../crates/vectors/data`.
 
-use cases::{curves, geometry, sheets};
+use cases::{calls, curves, geometry, sheets};
 use std::path::PathBuf;
 
 fn main() {
@@ -28,6 +28,7 @@ fn main() {
         "corners",
         geometry::sample::corner_files(1, 2000, |_, answer| answer),
     );
+    write_all("calls", calls::sample::files(1));
 
     // Ten answers of each family are not the Rust's, which must be noticed.
     let wrong = curves::sample::stored(2, 8, curves::sample::wrong_at_times);
@@ -38,6 +39,7 @@ fn main() {
     write_all("uvs_wrong", wrong);
     let wrong = geometry::sample::corner_files(2, 50, geometry::sample::wrong_corners);
     write_all("corners_wrong", wrong);
+    write_all("calls_wrong", calls::sample::wrong(2));
 
     // Files that are no whole sample, which must not pass for one.
     let good = &curves::sample::stored(2, 8, |_, answer| answer)[0];

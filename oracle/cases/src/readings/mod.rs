@@ -2,7 +2,6 @@
 //! animation at a frame, both resolves, and the cascade.
 
 pub mod published_form;
-pub mod sample;
 pub mod some;
 pub mod whole;
 

@@ -121,7 +121,7 @@ fn children(book: &Book, parent: u16) -> Vec<PaneNode> {
         .collect()
 }
 
-fn node(pane_idx: PaneId, base: Option<Pane>, children: Vec<PaneNode>) -> PaneNode {
+pub fn node(pane_idx: PaneId, base: Option<Pane>, children: Vec<PaneNode>) -> PaneNode {
     PaneNode {
         section: BflytSection { base },
         pane_idx,

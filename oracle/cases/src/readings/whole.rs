@@ -4,8 +4,10 @@
 use super::Case;
 use super::published_form as form;
 use crate::bits::bits_of;
+use crate::format::book::{self, Book};
+use crate::format::text_of;
 use published::anim_state::{AnimationState, MaterialAnimation, PaneAnimation};
-use published::pane_tree::PaneNode;
+use published::pane_tree::{PaneId, PaneNode, PaneTree};
 
 pub const PANE_CHANNELS: usize = 28;
 pub const MATERIAL_CHANNELS: usize = 30;
@@ -25,26 +27,6 @@ pub struct Cascade {
     pub handed: Vec<u32>,
 }
 
-#[derive(Clone, Debug, PartialEq)]
-pub struct Answer {
-    pub reading: Reading,
-    /// Ten numbers a pane.
-    pub transforms: Vec<u32>,
-    /// Fifteen numbers a material.
-    pub srts: Vec<u32>,
-    pub cascade: Cascade,
-}
-
-pub fn answer(case: &Case) -> Answer {
-    let state = state(case);
-    Answer {
-        reading: reading(case, &state),
-        transforms: transforms(case, &state),
-        srts: srts(case, &state),
-        cascade: cascade(case, state),
-    }
-}
-
 pub fn state(case: &Case) -> AnimationState {
     let Some((number, frame)) = case.active else {
         return AnimationState::default();
@@ -53,15 +35,15 @@ pub fn state(case: &Case) -> AnimationState {
     AnimationState::evaluate(&info, frame, &form::labels(&case.book))
 }
 
-pub fn reading(case: &Case, state: &AnimationState) -> Reading {
+pub fn reading(book: &Book, state: &AnimationState) -> Reading {
     let mut reading = Reading::default();
-    for pane in panes(case, state) {
-        pane_channels(&pane).iter().for_each(|&c| reading.push(c));
+    for row in 0..book.panes.len() {
+        let channels = pane_channels(&pane(state, row));
+        channels.iter().for_each(|&c| reading.push(c));
     }
-    for material in materials(case, state) {
-        material_channels(&material)
-            .iter()
-            .for_each(|&c| reading.push(c));
+    for row in &book.materials {
+        let channels = material_channels(&material(state, row));
+        channels.iter().for_each(|&c| reading.push(c));
     }
     reading
 }
@@ -73,28 +55,20 @@ impl Reading {
     }
 }
 
-/// Each pane's overrides, in the book's order.
-fn panes(case: &Case, state: &AnimationState) -> Vec<PaneAnimation> {
-    let ids = form::labels(&case.book);
-    let rows = case.book.panes.iter();
-    rows.map(|pane| {
-        let id = ids[crate::format::text_of(&pane.label)];
-        state.panes.get(&id).cloned().unwrap_or_default()
-    })
-    .collect()
+/// A pane's overrides: the tree's map gives a pane its row as its number.
+pub fn pane(state: &AnimationState, row: usize) -> PaneAnimation {
+    let id = PaneId(row as u32);
+    state.panes.get(&id).cloned().unwrap_or_default()
 }
 
-fn materials(case: &Case, state: &AnimationState) -> Vec<MaterialAnimation> {
-    let rows = case.book.materials.iter();
-    rows.map(|material| {
-        let name = crate::format::text_of(&material.name);
-        state.materials.get(name).cloned().unwrap_or_default()
-    })
-    .collect()
+/// A material's overrides.
+pub fn material(state: &AnimationState, row: &book::Material) -> MaterialAnimation {
+    let own = state.materials.get(text_of(&row.name));
+    own.cloned().unwrap_or_default()
 }
 
 /// SRT 10, visible, alpha, 16 corner colours.
-fn pane_channels(pane: &PaneAnimation) -> Vec<Option<f32>> {
+pub fn pane_channels(pane: &PaneAnimation) -> Vec<Option<f32>> {
     let mut channels = Vec::with_capacity(PANE_CHANNELS);
     channels.extend(pane.translation);
     channels.extend(pane.rotation);
@@ -108,7 +82,7 @@ fn pane_channels(pane: &PaneAnimation) -> Vec<Option<f32>> {
 
 /// Three layers of five, three textures, indirect rotation and two scales,
 /// alpha reference, eight colours (black first).
-fn material_channels(material: &MaterialAnimation) -> Vec<Option<f32>> {
+pub fn material_channels(material: &MaterialAnimation) -> Vec<Option<f32>> {
     let mut channels = Vec::with_capacity(MATERIAL_CHANNELS);
     for srt in &material.texture_srts {
         channels.extend([
@@ -119,8 +93,8 @@ fn material_channels(material: &MaterialAnimation) -> Vec<Option<f32>> {
             srt.scale_v,
         ]);
     }
-    let row = |name: &Option<String>| name.as_ref().map(|row| row.parse().expect("a row"));
-    channels.extend(material.texture_names.iter().map(row));
+    let rows = material.texture_names.iter();
+    channels.extend(rows.map(|name| texture_row(name).map(|row| row as f32)));
     channels.push(material.indirect_rotation);
     channels.extend(material.indirect_scale);
     channels.push(material.alpha_reference);
@@ -129,50 +103,61 @@ fn material_channels(material: &MaterialAnimation) -> Vec<Option<f32>> {
     channels
 }
 
-fn transforms(case: &Case, state: &AnimationState) -> Vec<u32> {
-    let overrides = panes(case, state);
-    let rows = case.book.panes.iter().zip(&overrides);
-    rows.flat_map(|(row, pane)| {
-        let to = pane.resolve_transform(&form::pane(row));
-        [
-            [to.translation.x, to.translation.y, to.translation.z],
-            [to.rotation.x, to.rotation.y, to.rotation.z],
-        ]
-        .as_flattened()
-        .iter()
-        .copied()
-        .chain([to.scale.x, to.scale.y, to.size.x, to.size.y])
-        .map(bits_of)
-        .collect::<Vec<u32>>()
-    })
-    .collect()
+/// The sheet's row that overrides a slot; a texture's name is its row's number.
+pub fn texture_row(name: &Option<String>) -> Option<usize> {
+    name.as_ref().map(|row| row.parse().expect("a row"))
 }
 
-fn srts(case: &Case, state: &AnimationState) -> Vec<u32> {
-    let overrides = materials(case, state);
-    let rows = case.book.materials.iter().zip(&overrides);
-    rows.flat_map(|(row, material)| {
-        let base = form::srts(row);
-        (0..3).flat_map(move |layer| {
-            let to = material.texture_srts[layer].resolve(&base[layer]);
-            [
-                to.translate_u,
-                to.translate_v,
-                to.rotate,
-                to.scale_u,
-                to.scale_v,
-            ]
-            .map(bits_of)
-        })
-    })
-    .collect()
+/// A pane's ten numbers, resolved.
+pub fn transform(row: &book::Pane, pane: &PaneAnimation) -> [u32; 10] {
+    let to = pane.resolve_transform(&form::pane(row));
+    let (translation, rotation) = (to.translation, to.rotation);
+    [
+        translation.x,
+        translation.y,
+        translation.z,
+        rotation.x,
+        rotation.y,
+        rotation.z,
+        to.scale.x,
+        to.scale.y,
+        to.size.x,
+        to.size.y,
+    ]
+    .map(bits_of)
 }
 
-fn cascade(case: &Case, state: AnimationState) -> Cascade {
-    let mut tree = form::tree(&case.book);
+/// A layer's five numbers, resolved.
+pub fn srt(row: &book::Material, material: &MaterialAnimation, layer: usize) -> [u32; 5] {
+    let to = material.texture_srts[layer].resolve(&form::srts(row)[layer]);
+    [
+        to.translate_u,
+        to.translate_v,
+        to.rotate,
+        to.scale_u,
+        to.scale_v,
+    ]
+    .map(bits_of)
+}
+
+/// A pane's own visibility and alpha: what the Rust's inner `update` gives a
+/// root without children, which is handed true and 1.0.
+pub fn own_look(row: &book::Pane, pane: &PaneAnimation) -> (u8, u32) {
+    let mut root = form::node(PaneId(0), Some(form::pane(row)), Vec::new());
+    root.animation = pane.clone();
+    let mut tree = PaneTree {
+        roots: vec![root],
+        ..PaneTree::default()
+    };
+    tree.update_animation_visuals();
+    (tree.roots[0].visible as u8, alpha_of(&tree.roots[0]))
+}
+
+pub fn cascade(book: &Book, state: AnimationState) -> Cascade {
+    let mut tree = form::tree(book);
     tree.set_animation(state);
     tree.update_animation_visuals();
-    let rows = case.book.panes.len();
+    let rows = book.panes.len();
     let mut cascade = Cascade {
         visible: vec![0; rows],
         alpha: vec![0; rows],

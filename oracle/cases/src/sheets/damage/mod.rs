@@ -4,7 +4,18 @@ pub mod book;
 pub mod keys;
 pub mod sheet;
 
+use crate::format::book::Book;
+use crate::format::name;
+use crate::format::sheet::Sheet;
 use crate::random::Random;
+
+/// The good sheet and the good book, with names that meet.
+pub fn base_pair() -> (Sheet, Book) {
+    let mut book = book::base();
+    book.panes[0].label = name("pane");
+    book.materials[0].name = name("material");
+    (sheet::base(), book)
+}
 
 /// Bytes in which one thing was changed, what it was, and the number of the
 /// refusal that it earns, 0 where it breaks nothing.

@@ -1,0 +1,218 @@
+//! The plain machine of document 01, "Playing and editing", fed the calls
+//! alone. It has no journal: its keys are always the loaded ones with the
+//! standing list made in order. It declines by the table on its own state, of
+//! which rows 1, 3, 4 and 5 decline nothing.
+
+use super::player::{Player, ROWS};
+use super::readings::{self, LentBook, refused};
+use super::reference::Reference;
+use super::{Answer, Call, Request, Told, View, table};
+use crate::bits::bits_of;
+use crate::format::load::Arrays;
+use crate::format::sheet::Sheet;
+
+/// How often the keys are made anew where one more edit would do.
+const AGAIN: u64 = 16;
+
+/// A standing edit.
+#[derive(Clone, Copy, Debug)]
+struct Edit {
+    animation: u16,
+    track: u16,
+    key: u16,
+    request: Request,
+}
+
+pub struct Machine {
+    sheet: Sheet,
+    loaded: Arrays,
+    standing: Vec<Edit>,
+    redo: Vec<Edit>,
+    reach: u64,
+    accepted: u64,
+    undone: u64,
+    redone: u64,
+    pub view: View,
+    /// The loaded keys with the standing list made in order.
+    keys: Arrays,
+    reference: Reference,
+}
+
+impl Machine {
+    pub fn new(sheet: &Sheet) -> Self {
+        let loaded = [&sheet.frames, &sheet.values, &sheet.slopes].map(Clone::clone);
+        Self {
+            sheet: sheet.clone(),
+            standing: Vec::new(),
+            redo: Vec::new(),
+            reach: 0,
+            accepted: 0,
+            undone: 0,
+            redone: 0,
+            view: View::FRESH,
+            keys: loaded.clone(),
+            loaded,
+            reference: Reference::new(sheet),
+        }
+    }
+
+    pub fn step(&mut self, call: &Call, book: &LentBook) -> Answer {
+        let view = self.view;
+        match *call {
+            Call::Play(animation) => {
+                let refusal = table::play_rows(&self.sheet, animation);
+                self.unless(refusal, call, book, |m| {
+                    m.view = m.reference.play(view, animation);
+                    Told::Done
+                })
+            }
+            Call::Pose(animation, frame) => self.unless(table::pose_rows(frame), call, book, |m| {
+                m.view = m.reference.pose(view, animation, frame);
+                Told::Done
+            }),
+            Call::Tick { dt, fps } => {
+                let refusal = table::tick_rows(&mut self.reference, view, dt, fps);
+                self.unless(refusal, call, book, |m| {
+                    let (next, answer) = m.reference.tick(view, dt, fps);
+                    m.view = next;
+                    Told::Tick(answer)
+                })
+            }
+            Call::Edit {
+                track,
+                key,
+                request,
+            } => self.edit(call, book, (track, key, request)),
+            Call::Undo => {
+                let refusal = if self.reach == 0 { 11 } else { 0 };
+                self.unless(refusal, call, book, Self::undo)
+            }
+            Call::Redo => {
+                let refusal = if self.redo.is_empty() { 11 } else { 0 };
+                self.unless(refusal, call, book, Self::redo)
+            }
+            Call::NextName(animation) => Answer {
+                refusal: 0,
+                told: readings::next_name(&self.sheet, animation),
+            },
+            _ => readings::answer(&self.sheet, book, &self.reference, view, call),
+        }
+    }
+
+    /// A declined call changes nothing.
+    fn unless(
+        &mut self,
+        refusal: u8,
+        call: &Call,
+        book: &LentBook,
+        step: impl FnOnce(&mut Self) -> Told,
+    ) -> Answer {
+        if refusal != 0 {
+            return refused(book, call, refusal);
+        }
+        let told = step(self);
+        Answer { refusal, told }
+    }
+
+    /// "Accepted edit: append, reach + 1 up to 128, redo emptied, accepted + 1."
+    fn edit(&mut self, call: &Call, book: &LentBook, asked: (u16, u16, Request)) -> Answer {
+        let (sheet, keys, animation) = (&self.sheet, &self.keys, self.view.selection);
+        let refusal = table::edit_rows(sheet, &mut self.reference, keys, animation, asked);
+        let (track, key, request) = asked;
+        self.unless(refusal, call, book, |m| {
+            m.reach = (m.reach + 1).min(ROWS as u64);
+            m.redo.clear();
+            m.accepted += 1;
+            m.append(Edit {
+                animation,
+                track,
+                key,
+                request,
+            });
+            Told::Done
+        })
+    }
+
+    /// "Undo: the last standing edit moves to redo, reach − 1, undone + 1."
+    fn undo(&mut self) -> Told {
+        let edit = self.standing.pop().expect("reach is at most standing");
+        self.redo.push(edit);
+        self.reach -= 1;
+        self.undone += 1;
+        self.make_all();
+        Told::Done
+    }
+
+    /// "Redo: the edit moved last moves back, reach + 1, redone + 1."
+    fn redo(&mut self) -> Told {
+        let edit = self.redo.pop().expect("row 11");
+        self.reach += 1;
+        self.redone += 1;
+        self.append(edit);
+        Told::Done
+    }
+
+    /// One edit more at the end of the list: made on the keys that the earlier
+    /// ones left. Now and then all are made anew, with the same outcome.
+    fn append(&mut self, edit: Edit) {
+        self.standing.push(edit);
+        self.make(edit);
+        self.reference.take(usize::from(edit.track), &mut self.keys);
+        if (self.accepted + self.redone).is_multiple_of(AGAIN) {
+            let before = self.keys.each_ref().map(|array| bits(array));
+            self.make_all();
+            assert_eq!(before, self.keys.each_ref().map(|array| bits(array)));
+        }
+    }
+
+    fn make(&mut self, edit: Edit) {
+        let Edit {
+            animation,
+            track,
+            key,
+            request,
+        } = edit;
+        self.reference.edit(animation, track, key, request);
+    }
+
+    /// The loaded keys with the standing list made in order.
+    fn make_all(&mut self) {
+        self.reference.put_all(&self.loaded);
+        for i in 0..self.standing.len() {
+            self.make(self.standing[i]);
+        }
+        self.reference.take_all(&mut self.keys);
+    }
+
+    /// The keys' bits.
+    pub fn keys(&self) -> [Vec<u32>; 3] {
+        self.keys.each_ref().map(|array| bits(array))
+    }
+
+    /// "The player carries reach, counts and standing (the standing list's
+    /// length) as here", and the redo list's length: whether it does.
+    pub fn is_carried_by(&self, player: &Player) -> bool {
+        let view = self.view;
+        let of_view = (
+            view.selection,
+            view.playing,
+            view.preview,
+            bits_of(view.frame),
+        );
+        let counts = [
+            self.reach,
+            self.redo.len() as u64,
+            self.accepted,
+            self.undone,
+            self.redone,
+            self.standing.len() as u64,
+        ];
+        let p = player;
+        of_view == (p.selection, p.playing, p.preview, p.frame)
+            && counts == [p.reach, p.redo, p.accepted, p.undone, p.redone, p.standing]
+    }
+}
+
+fn bits(array: &[f32]) -> Vec<u32> {
+    array.iter().map(|&x| bits_of(x)).collect()
+}

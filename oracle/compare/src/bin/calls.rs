@@ -1,0 +1,61 @@
+//! `calls COUNT SEED`: lists of calls on the plain machine, whose calls mean what
+//! the published text says, beside the proved player: every answer and output,
+//! all keys and the whole player after each. First every short list over a few
+//! calls; then every field, journal row and key spoiled alone; then random
+//! lists, until COUNT of their calls were compared. `calls 0 SEED` runs the one
+//! random list of that seed, and tells its steps.
+
+use cases::calls::short;
+use cases::random::Random;
+use compare::arguments::Arguments;
+use compare::lists::{Counts, Difference};
+
+fn main() {
+    let Arguments { count, seed } = Arguments::read(1_000_000);
+    let mut counts = Counts::default();
+    if count == 0 {
+        let found = counts.run(seed, |step| println!("{step:?}"));
+        report(&counts, "one list", found.map(|d| d.what));
+        return;
+    }
+    let found = counts.each_short_list();
+    report(&counts, &format!("{} short lists", short::COUNT), found);
+
+    let mut counts = Counts::default();
+    let found = counts.each_spoil_alone();
+    report(&counts, "each thing spoiled alone", found);
+
+    let mut counts = Counts::default();
+    let found = random_lists(&mut counts, count, seed);
+    counts.print_lists();
+    report(&counts, &format!("random lists, seed {seed}"), found);
+}
+
+/// Random lists until so many calls were made; of those that differ, the one
+/// that does so after the fewest steps.
+fn random_lists(counts: &mut Counts, count: u64, seed: u64) -> Option<String> {
+    let mut seeds = Random::new(seed);
+    let mut smallest: Option<Difference> = None;
+    while counts.calls < count {
+        let found = counts.run(seeds.word(), |_| {});
+        let before = smallest.as_ref().map_or(usize::MAX, |d| d.steps);
+        if found.as_ref().is_some_and(|d| d.steps < before) {
+            smallest = found;
+        }
+    }
+    let differ = counts.differ;
+    smallest.map(|Difference { seed, steps, what }| {
+        format!("{differ} lists; the smallest has seed {seed}, at step {steps}: {what}")
+    })
+}
+
+/// Tells how many calls there were of each kind and of each refusal. A run with
+/// a difference fails.
+fn report(counts: &Counts, what: &str, differs: Option<String>) {
+    counts.print_calls();
+    if let Some(difference) = differs {
+        println!("{what}: differs in {difference}");
+        std::process::exit(1);
+    }
+    println!("{what}: {} calls compared, none differ", counts.calls);
+}

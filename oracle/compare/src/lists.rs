@@ -1,0 +1,159 @@
+//! Runs of lists, and what they came to: how many calls of each kind, how many
+//! of each refusal, how many lists with more edits than a journal holds.
+
+use crate::ours::Ours;
+use cases::calls::held::Held;
+use cases::calls::player::ROWS;
+use cases::calls::short;
+use cases::calls::walk::{Step, Walk};
+use cases::calls::{Answer, Call};
+use cases::random::Random;
+use cases::sheets::damage;
+
+/// By a call's code.
+const KINDS: [&str; 15] = [
+    "play",
+    "pose",
+    "tick",
+    "key edit",
+    "slope edit",
+    "undo",
+    "redo",
+    "pane's channel",
+    "material's channel",
+    "whole reading",
+    "pane resolved",
+    "SRT resolved",
+    "texture name",
+    "cascade",
+    "next name",
+];
+
+const REFUSALS: usize = 14;
+
+#[derive(Default)]
+pub struct Counts {
+    pub lists: u64,
+    pub calls: u64,
+    spoils: u64,
+    /// By kind and refusal.
+    of_kind: [[u64; REFUSALS]; KINDS.len()],
+    /// Lists that passed 128 edits, and those whose plain machine was beside
+    /// to the end.
+    long: u64,
+    plain: u64,
+    pub differ: u64,
+}
+
+/// Where a list first differs: its seed, how many steps it had made, and what.
+pub struct Difference {
+    pub seed: u64,
+    pub steps: usize,
+    pub what: String,
+}
+
+impl Counts {
+    /// Runs the list of a seed to its end, or to the first difference. `each` is
+    /// told every step.
+    pub fn run(&mut self, seed: u64, mut each: impl FnMut(&Step)) -> Option<Difference> {
+        let mut walk = Walk::of_seed(seed);
+        let mut ours = Ours::load(&walk.held.sheet_bytes);
+        let mut difference = (!ours.is(&walk.held)).then(|| "loading".to_string());
+        let mut steps = 0;
+        while difference.is_none() {
+            let Some(step) = walk.step() else { break };
+            each(&step);
+            steps += 1;
+            difference = self.step(&step, &walk, &mut ours);
+        }
+        self.lists += 1;
+        self.long += u64::from(walk.held.player.accepted > ROWS as u64);
+        self.plain += u64::from(walk.is_plain());
+        self.differ += u64::from(difference.is_some());
+        difference.map(|what| Difference { seed, steps, what })
+    }
+
+    /// Every short list, and the first difference.
+    pub fn each_short_list(&mut self) -> Option<String> {
+        let (sheet, book) = damage::base_pair();
+        for number in 0..short::COUNT {
+            let mut walk = Walk::new(Random::new(0), &sheet, &book, 0);
+            let mut ours = Ours::load(&walk.held.sheet_bytes);
+            for call in short::list(number) {
+                let step = walk.call(call);
+                let difference = self.step(&step, &walk, &mut ours);
+                if let Some(what) = difference {
+                    return Some(format!("{:?}: {what}", short::list(number)));
+                }
+            }
+        }
+        None
+    }
+
+    fn step(&mut self, step: &Step, walk: &Walk, ours: &mut Ours) -> Option<String> {
+        match step {
+            Step::Spoiled(spoil) => {
+                self.spoils += 1;
+                ours.spoil(spoil);
+            }
+            Step::Called(call, answer) => {
+                return self.compare(call, answer, &walk.held, ours);
+            }
+        }
+        let same = ours.is(&walk.held);
+        (!same).then(|| format!("player or keys after {step:?}"))
+    }
+
+    /// Makes a call that the plain player has made and answered: the answers,
+    /// and then player and keys whole.
+    pub fn compare(
+        &mut self,
+        call: &Call,
+        plain: &Answer,
+        held: &Held,
+        ours: &mut Ours,
+    ) -> Option<String> {
+        self.calls += 1;
+        self.of_kind[usize::from(call.code())][usize::from(plain.refusal)] += 1;
+        let given = ours.step(call, held);
+        if given != *plain {
+            return Some(format!("{call:?}\n  plain {plain:?}\n  here  {given:?}"));
+        }
+        let same = ours.is(held);
+        (!same).then(|| format!("player or keys after {call:?}"))
+    }
+
+    pub fn print_lists(&self) {
+        let Self {
+            lists,
+            spoils,
+            long,
+            plain,
+            ..
+        } = self;
+        println!("{lists} lists with {spoils} spoils");
+        println!("{long} lists passed {ROWS} edits");
+        println!("{plain} lists had the plain machine beside them to the end");
+    }
+
+    pub fn print_calls(&self) {
+        for (name, counts) in KINDS.iter().zip(&self.of_kind) {
+            let all: u64 = counts.iter().sum();
+            println!("{name}: {all} calls, {}", told(counts));
+        }
+        let sums: [u64; REFUSALS] =
+            std::array::from_fn(|n| self.of_kind.iter().map(|counts| counts[n]).sum());
+        println!("all: {}", told(&sums));
+    }
+}
+
+/// The counts of each refusal that occurred.
+fn told(counts: &[u64; REFUSALS]) -> String {
+    let refused = (1..REFUSALS).filter(|&n| counts[n] > 0);
+    let refused: Vec<String> = refused.map(|n| format!("{n}: {}", counts[n])).collect();
+    format!(
+        "{} accepted, refused by {{{}}}",
+        counts[0],
+        refused.join(", ")
+    )
+}
