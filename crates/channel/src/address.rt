@@ -7,7 +7,7 @@ ghost use mathlib.Core.Path.{_≡_};
 ghost use Prim.Native.Nat.{ℕ, _<_};
 ghost use Rattle.book.specs.Sizes.{materialCount};
 ghost use Rattle.book.specs.Checked.{CheckedBook};
-ghost use Rattle.channel.specs.Channel.{familyOf, listed, paneChannel, colourPlace, materialChannel, paneChannels, materialChannels, channelCount, ofPane, ofMaterial, address, rowChannel};
+ghost use Rattle.channel.specs.Channel.{familyOf, listed, paneChannel, colourPlace, materialChannel, paneChannels, materialChannels, channelCount, ofPane, ofMaterial, rowChannel};
 ghost use Rattle.channel.specs.Within.{ReachedIn};
 
 // How many channels a pane has, and a material.
@@ -132,31 +132,38 @@ pub fn of_material(b: &[u8], m: usize, c: usize) -> usize
     book::pane_count(b) * PANE_CHANNELS + m * MATERIAL_CHANNELS + c
 }
 
-// A channel of the row that is reached.
-fn address(b: &[u8], r: Reached, f: Family, raw: usize, layer: usize) -> Found
+// The channel of a pane that a target's row addresses.
+pub fn pane_row_channel(row: Target) -> Found
+    ensures { λ r. ⌜ r ≡ paneChannel (familyOf (row .code)) (row .raw) ⌝ }
+{
+    pane_channel(family_of(row.code), row.raw)
+}
+
+// The channel of a material likewise.
+pub fn material_row_channel(row: Target) -> Found
+    ensures { λ r. ⌜ r ≡ materialChannel (familyOf (row .code)) (row .raw) (row .layer) ⌝ }
+{
+    material_channel(family_of(row.code), row.raw, row.layer)
+}
+
+// The channel that a target's row addresses in the row that is reached. The family is asked for last: many targets reach nothing.
+pub fn row_channel(b: &[u8], r: Reached, row: Target) -> Found
     requires { ⌜ CheckedBook (now b) × ReachedIn (now b) r ⌝ }
-    ensures { λ o. ⌜ o ≡ address (now (b .entry)) r f raw layer ⌝ }
+    ensures { λ o. ⌜ o ≡ rowChannel (now (b .entry)) r row ⌝ }
 {
     match r {
         Reached::Pane(p) => {
-            let Found::At(c) = pane_channel(f, raw) else {
+            let Found::At(c) = pane_row_channel(row) else {
                 return Found::Nothing;
             };
             Found::At(of_pane(p, c))
         }
         Reached::Material(m) => {
-            let Found::At(c) = material_channel(f, raw, layer) else {
+            let Found::At(c) = material_row_channel(row) else {
                 return Found::Nothing;
             };
             Found::At(of_material(b, m, c))
         }
         Reached::Nothing => Found::Nothing,
     }
-}
-
-pub fn row_channel(b: &[u8], r: Reached, row: Target) -> Found
-    requires { ⌜ CheckedBook (now b) × ReachedIn (now b) r ⌝ }
-    ensures { λ o. ⌜ o ≡ rowChannel (now (b .entry)) r row ⌝ }
-{
-    address(b, r, family_of(row.code), row.raw, row.layer)
 }

@@ -1,7 +1,6 @@
 // Whether a target addresses one given channel: the channel's row of the book is known, so its name is compared and none is searched for.
-use crate::address::family_of;
-use crate::address::material_channel;
-use crate::address::pane_channel;
+use crate::address::material_row_channel;
+use crate::address::pane_row_channel;
 use laws::Found;
 use sheet::Target;
 ghost use mathlib.Core.Path.{_≡_};
@@ -79,14 +78,13 @@ pub fn hits(s: &[u8], b: &[u8], a: usize, place: Place, row: Target) -> bool
 {
     match place {
         Place::Pane(p, k) => {
-            if is_at(pane_channel(family_of(row.code), row.raw), k) {
+            if is_at(pane_row_channel(row), k) {
                 return reaches_pane(s, b, a, row.content, p);
             }
             false
         }
         Place::Material(m, k) => {
-            let f = family_of(row.code);
-            if is_at(material_channel(f, row.raw, row.layer), k) {
+            if is_at(material_row_channel(row), k) {
                 return reaches_material(s, b, a, row.content, m);
             }
             false

@@ -41,6 +41,9 @@ fn main() {
     report("proved: whole reading, with rows 1, 2, 4 and 13", || {
         assert!(tables.fill(black_box(&case), &sheet_bytes, &book_bytes));
     });
+    report("proved: checks once and 101 whole readings", || {
+        assert!(tables.fill_frames(black_box(&case), &sheet_bytes, &book_bytes, 101, 0.0));
+    });
     report("Rust: 256 curves, as number and as u16 (both ways)", || {
         for curve in &published {
             black_box(answer(curve, 7.5));

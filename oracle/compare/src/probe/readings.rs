@@ -26,6 +26,26 @@ mod raw {
             numbers: *mut f32,
             numbers_len: usize,
         ) -> bool;
+        pub fn probe_read_frames(
+            s: *const u8,
+            s_len: usize,
+            b: *const u8,
+            b_len: usize,
+            frames: *const f32,
+            frames_len: usize,
+            values: *const f32,
+            values_len: usize,
+            slopes: *const f32,
+            slopes_len: usize,
+            animation: usize,
+            frame: f32,
+            step: f32,
+            times: usize,
+            marks: *mut u8,
+            marks_len: usize,
+            numbers: *mut f32,
+            numbers_len: usize,
+        ) -> bool;
     }
 }
 
@@ -78,6 +98,46 @@ impl Tables {
                 case.active.is_some(),
                 animation,
                 frame,
+                self.marks.as_mut_ptr(),
+                self.marks.len(),
+                self.numbers.as_mut_ptr(),
+                self.numbers.len(),
+            )
+        }
+    }
+
+    /// The checks once, then `times` whole readings at frames a step apart.
+    pub fn fill_frames(
+        &mut self,
+        case: &Case,
+        sheet: &[u8],
+        book: &[u8],
+        times: usize,
+        step: f32,
+    ) -> bool {
+        let Sheet {
+            frames,
+            values,
+            slopes,
+            ..
+        } = &case.sheet;
+        let (animation, frame) = case.active.unwrap_or_default();
+        unsafe {
+            raw::probe_read_frames(
+                sheet.as_ptr(),
+                sheet.len(),
+                book.as_ptr(),
+                book.len(),
+                frames.as_ptr(),
+                frames.len(),
+                values.as_ptr(),
+                values.len(),
+                slopes.as_ptr(),
+                slopes.len(),
+                animation,
+                frame,
+                step,
+                times,
                 self.marks.as_mut_ptr(),
                 self.marks.len(),
                 self.numbers.as_mut_ptr(),

@@ -1,24 +1,81 @@
-use Rattle.channel.specs.Channel.{rowChannel}
+use mathlib.Core.Path.{sym, _∙_}
+use native.Mathlib.Omega.{arith}
+use Rattle.channel.specs.Channel.{address, rowChannel}
+use Rattle.channel.specs.Within.{pane-channel-below, material-channel-below}
 use borrow.Author.Needs.{needs}
 use Rattle.channel.proofs.address.row_channel.Statement.{statement}
 use Rattle.channel.proofs.address.row_channel.Tie as tie
-use Rattle.channel.proofs.address.row_channel.Reads as reads
-use Rattle.channel.proofs.address.row_channel.Lts as lts
-use Rattle.channel.proofs.address.address.Reads as address-reads
-use Rattle.channel.proofs.address.family_of.Reads as family-of-reads
 
--- src/channel.rt:136:19
-family-of-requires : tie.Need-family-of-requires
-family-of-requires c κs = search needs
+enum-known-r : tie.Need-enum-known-r
+enum-known-r c = search needs
 
--- src/channel.rt:136:5
-address-requires : tie.Need-address-requires
-address-requires c κs = search needs
+pane-row-channel-requires : tie.Need-pane-row-channel-requires
+pane-row-channel-requires c κs = search needs
 
--- src/channel.rt:132:1
+enum-known-c : tie.Need-enum-known-c
+enum-known-c c = search needs
+
+enum-told : tie.Need-enum-told
+enum-told c = search needs
+
 returns : tie.Need-returns
-unfolding rowChannel
-returns c = cc
+unfolding address rowChannel
+returns c = rw (c .before .before .before .before .r .given .1, sym (c .before .before .pane-row-channel .ensures) ∙ c .enum-told .given .1)
+
+of-pane-requires : tie.Need-of-pane-requires
+of-pane-requires c κs = (omega (arith, (c .before .before .before .before .before .before .before .before .pre .1 .pane _ (c .before .before .before .before .before .r .given .1))), (pane-channel-below _ _ .below _ (sym (c .before .before .before .pane-row-channel .ensures) ∙ c .before .c .given .1)))
+
+enum-known-r-2 : tie.Need-enum-known-r-2
+enum-known-r-2 c = search needs
+
+material-row-channel-requires : tie.Need-material-row-channel-requires
+material-row-channel-requires c κs = search needs
+
+enum-known-c-2 : tie.Need-enum-known-c-2
+enum-known-c-2 c = search needs
+
+enum-told-2 : tie.Need-enum-told-2
+enum-told-2 c = search needs
+
+returns-2 : tie.Need-returns-2
+unfolding address rowChannel
+returns-2 c = rw (c .before .before .before .before .r2 .given .1, sym (c .before .before .material-row-channel .ensures) ∙ c .enum-told2 .given .1)
+
+of-material-requires : tie.Need-of-material-requires
+of-material-requires c κs = (c .before .before .before .before .before .before .before .before .pre .0, ((c .before .before .before .before .before .before .before .before .pre .1 .material _ (c .before .before .before .before .before .r2 .given .1)), (material-channel-below _ _ _ .below _ (sym (c .before .before .before .material-row-channel .ensures) ∙ c .before .c2 .given .1))))
+
+enum-told-3 : tie.Need-enum-told-3
+enum-told-3 c = search needs
+
+returns-3 : tie.Need-returns-3
+unfolding address rowChannel
+returns-3 c = rw (c .before .before .before .before .before .before .r .given .1, sym (c .before .before .before .before .pane-row-channel .ensures) ∙ c .before .before .c .given .1) (rw (c .of-pane .ensures))
+
+returns-4 : tie.Need-returns-4
+unfolding address rowChannel
+returns-4 c = rw (c .before .before .before .before .before .before .r2 .given .1, sym (c .before .before .before .before .material-row-channel .ensures) ∙ c .before .before .c2 .given .1) (rw (c .of-material .ensures))
+
+returns-5 : tie.Need-returns-5
+unfolding address rowChannel
+returns-5 c = rw (c .enum-told3 .given .1)
 
 pub row-channel-spec : {M : Type 1} → statement M
-row-channel-spec = tie.close (tie.spec family-of-requires address-requires returns)
+row-channel-spec =
+    tie.close
+    (tie.spec
+    enum-known-r
+    pane-row-channel-requires
+    enum-known-c
+    enum-told
+    returns
+    of-pane-requires
+    enum-known-r-2
+    material-row-channel-requires
+    enum-known-c-2
+    enum-told-2
+    returns-2
+    of-material-requires
+    enum-told-3
+    returns-3
+    returns-4
+    returns-5)
