@@ -209,7 +209,7 @@ impl Track {
     }
 }
 
-fn bflan(sheet: &Sheet, number: usize) -> Bflan {
+pub fn bflan(sheet: &Sheet, number: usize) -> Bflan {
     let row = &sheet.animations[number];
     let user_data = (row.next_present == 1).then(|| UserDataArray {
         user_data: vec![UserData {

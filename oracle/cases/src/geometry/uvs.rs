@@ -66,7 +66,7 @@ fn block(case: &Case) -> [u32; BLOCK] {
     std::array::from_fn(|i| bits_of(flat[i]))
 }
 
-fn texture_uv(layer: &[f32; 8]) -> TextureUv {
+pub fn texture_uv(layer: &[f32; 8]) -> TextureUv {
     let corner = |i: usize| Vector2f::new(layer[2 * i], layer[2 * i + 1]);
     TextureUv {
         top_left: corner(0),

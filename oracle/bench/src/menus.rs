@@ -1,0 +1,142 @@
+//! Menus of several sizes, in the product's form and in the published one.
+
+use cases::calls::reference::bflan;
+use cases::format::book::Book;
+use cases::format::sheet::Sheet;
+use cases::random::Random;
+use cases::readings::Case;
+use cases::readings::published_form as form;
+use cases::sheets::{books, good};
+use dovebolt::{Keys, Player};
+use published::anim_state::AnimPlayer;
+use published::bflan::anim_info::PaneAnimInfo;
+use published::pane_tree::{PaneId, PaneNode, PaneTree};
+use published::ui::timeline::TimelineTrack;
+use std::collections::{HashMap, HashSet};
+
+/// The frame at which everything is read.
+pub const FRAME: f32 = 7.5;
+
+pub struct Menu {
+    pub case: Case,
+    pub sheet: Vec<u8>,
+    pub book: Vec<u8>,
+    pub player: Player,
+    pub keys: Keys,
+    pub info: PaneAnimInfo,
+    pub labels: HashMap<String, PaneId>,
+    pub tree: PaneTree,
+    pub published: AnimPlayer,
+}
+
+pub const SMALL: (good::Size, books::Size) = (
+    good::Size {
+        animations: 1,
+        contents: 4,
+        targets: 8,
+        keys: 24,
+        textures: 2,
+    },
+    books::Size {
+        panes: 4,
+        materials: 2,
+    },
+);
+
+pub const TYPICAL: (good::Size, books::Size) = (
+    good::Size {
+        animations: 4,
+        contents: 24,
+        targets: 80,
+        keys: 400,
+        textures: 12,
+    },
+    books::Size {
+        panes: 24,
+        materials: 10,
+    },
+);
+
+pub const FULL: (good::Size, books::Size) = (good::FULL, books::FULL);
+
+impl Menu {
+    /// A generated menu whose animation 0 plays and loops. `one` puts every
+    /// content into it, so that a reading takes all targets.
+    pub fn new((sheet, book): (good::Size, books::Size), one: bool) -> Self {
+        let mut random = Random::new(1);
+        let book = books::book(&mut random, book);
+        let mut sheet = good::sheet(&mut random, sheet, &book);
+        sheet.animations[0].frame_count = 60;
+        sheet.animations[0].looping = 1;
+        if one {
+            sheet.contents.iter_mut().for_each(|c| c.animation = 0);
+        }
+        Self::of(sheet, book)
+    }
+
+    fn of(sheet: Sheet, book: Book) -> Self {
+        let (sheet_bytes, book_bytes) = (sheet.write(), book.write());
+        let (mut player, keys) = Player::load(&sheet_bytes).expect("a good sheet");
+        player.play(&sheet_bytes, Some(0)).expect("animation 0");
+        let mut tree = form::tree(&book);
+        without_listeners(&mut tree.roots);
+        let mut published = AnimPlayer::new();
+        published.load(bflan(&sheet, 0), None);
+        published.play(Some(0), &tree, &mut HashSet::new());
+        Self {
+            info: form::animation(&sheet, 0),
+            labels: form::labels(&book),
+            tree,
+            published,
+            sheet: sheet_bytes,
+            book: book_bytes,
+            player,
+            keys,
+            case: Case {
+                sheet,
+                book,
+                active: Some((0, FRAME)),
+            },
+        }
+    }
+
+    /// The player posed at the frame that everything is read at.
+    pub fn posed(&self) -> Player {
+        let mut player = self.player.clone();
+        player
+            .pose(&self.sheet, Some(0), FRAME)
+            .expect("animation 0");
+        player
+    }
+
+    /// A track of animation 0 that is its content's first and has a key, where
+    /// the published form has it, and its last key, which no edit takes past
+    /// another.
+    pub fn edited_key(&self) -> (u16, TimelineTrack, u16) {
+        let sheet = &self.case.sheet;
+        let mut before = None;
+        for (number, target) in sheet.targets.iter().enumerate() {
+            let first = before.replace(target.content) != Some(target.content);
+            let own = sheet.contents[usize::from(target.content)].animation == 0;
+            if first && own && !target.keys().is_empty() {
+                let place = TimelineTrack {
+                    label: String::new(),
+                    content_idx: usize::from(target.content),
+                    info_idx: 0,
+                    target_idx: 0,
+                };
+                return (number as u16, place, target.keys().len() as u16 - 1);
+            }
+        }
+        panic!("no track of animation 0 has keys")
+    }
+}
+
+/// The comparison hangs a node below each pane to hear what it hands on; the
+/// published tree has none.
+fn without_listeners(nodes: &mut Vec<PaneNode>) {
+    nodes.retain(|node| node.pane_idx != form::LISTENER);
+    nodes
+        .iter_mut()
+        .for_each(|node| without_listeners(&mut node.children));
+}

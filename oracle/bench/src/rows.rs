@@ -1,0 +1,223 @@
+//! One function a row of the table: ours beside the Rust's, or alone where the
+//! Rust has no such call.
+
+use crate::menus::{FRAME, Menu};
+use crate::timing::{Both, Spread, alone, side_by_side};
+use cases::geometry::uvs::{texture_srt, texture_uv};
+use compare::probe::readings::Tables;
+use dovebolt::{Player, Vector2f, Vector3f};
+use published::anim_state::AnimationState;
+use published::bflyt::pane::{HorizontalPosition, VerticalPosition};
+use published::pane_tree::{Corners, PaneNode};
+use published::ui::timeline::PendingKeyEdit;
+use published::ui2d::types;
+use std::hint::black_box;
+
+/// Frames read after one check; the check's share of each is a thousandth.
+const FRAMES: usize = 1000;
+
+/// No pane has this channel, so that a reading of it is declined with 7 after
+/// rows 1 to 5 have passed.
+const NO_CHANNEL: u16 = 28;
+
+/// A tick's seconds and frames a second.
+const TICK: (f32, f32) = (0.016, 30.0);
+
+fn evaluate(menu: &Menu) -> AnimationState {
+    AnimationState::evaluate(black_box(&menu.info), FRAME, &menu.labels)
+}
+
+pub fn checks(menu: &Menu) -> Spread {
+    let player = menu.posed();
+    alone(&mut || {
+        let answer = player.read_pane(&menu.sheet, &menu.book, &menu.keys, 0, NO_CHANNEL);
+        assert!(black_box(answer).is_err());
+    })
+}
+
+pub fn evaluation(menu: &Menu) -> Both {
+    let mut tables = Tables::new(dovebolt::channel_count(&menu.book));
+    let both = side_by_side(
+        &mut || assert!(tables.fill_frames(&menu.case, &menu.sheet, &menu.book, FRAMES, 0.0)),
+        &mut || (0..FRAMES).for_each(|_| drop(black_box(evaluate(menu)))),
+    );
+    both.each_of(FRAMES)
+}
+
+pub fn whole_reading(menu: &Menu) -> Both {
+    let player = menu.posed();
+    let count = dovebolt::channel_count(&menu.book);
+    let (mut marks, mut numbers) = (vec![0; count], vec![0.0; count]);
+    side_by_side(
+        &mut || {
+            let Menu {
+                sheet, book, keys, ..
+            } = menu;
+            let answer = player.read_all_into(sheet, book, keys, &mut marks, &mut numbers);
+            answer.expect("a reading");
+        },
+        &mut || drop(black_box(evaluate(menu))),
+    )
+}
+
+/// The Rust has no reading of one channel: it evaluates all.
+pub fn single_reading(menu: &Menu) -> Both {
+    let player = menu.posed();
+    side_by_side(
+        &mut || {
+            let answer = player.read_pane(&menu.sheet, &menu.book, &menu.keys, 0, 0);
+            black_box(answer).expect("a reading");
+        },
+        &mut || drop(black_box(evaluate(menu))),
+    )
+}
+
+pub fn cascade(menu: &mut Menu) -> Both {
+    let player = menu.posed();
+    let count = dovebolt::pane_count(&menu.book);
+    let (mut visible, mut alpha, mut handed) = (vec![0; count], vec![0.0; count], vec![0.0; count]);
+    let Menu {
+        sheet,
+        book,
+        keys,
+        tree,
+        info,
+        labels,
+        ..
+    } = menu;
+    side_by_side(
+        &mut || {
+            let answer =
+                player.cascade_into(sheet, book, keys, &mut visible, &mut alpha, &mut handed);
+            answer.expect("a cascade");
+        },
+        &mut || {
+            tree.set_animation(AnimationState::evaluate(black_box(info), FRAME, labels));
+            tree.update_animation_visuals();
+            black_box(&tree.roots);
+        },
+    )
+}
+
+pub fn tick(menu: &mut Menu) -> Both {
+    let Menu {
+        sheet,
+        player,
+        published,
+        ..
+    } = menu;
+    side_by_side(
+        &mut || {
+            black_box(player.tick(sheet, TICK.0, TICK.1).expect("a tick"));
+        },
+        &mut || drop(black_box(published.tick(TICK.0, TICK.1))),
+    )
+}
+
+pub fn edit(menu: &mut Menu) -> Both {
+    let (track, place, key) = menu.edited_key();
+    let Menu {
+        sheet,
+        player,
+        keys,
+        published,
+        ..
+    } = menu;
+    let asked = PendingKeyEdit {
+        track: place,
+        key_idx: usize::from(key),
+        frame: 0.25,
+        value: 3.0,
+    };
+    side_by_side(
+        &mut || {
+            let answer = player.key_edit(sheet, keys, track, key, asked.frame, asked.value);
+            answer.expect("an edit");
+        },
+        &mut || published.apply_key_edit(black_box(&asked)),
+    )
+}
+
+/// An undo and a redo in turn; the Rust has neither.
+pub fn undo(menu: &mut Menu) -> Spread {
+    let (track, _, key) = menu.edited_key();
+    let Menu {
+        sheet,
+        player,
+        keys,
+        ..
+    } = menu;
+    let answer = player.key_edit(sheet, keys, track, key, 0.5, 7.0);
+    answer.expect("an edit");
+    let pair = alone(&mut || {
+        player.undo(sheet, keys).expect("an undo");
+        player.redo(sheet, keys).expect("a redo");
+    });
+    pair.each_of(2)
+}
+
+pub fn load(menu: &Menu) -> Spread {
+    let mut keys = menu.keys.clone();
+    alone(&mut || {
+        drop(black_box(
+            Player::load_into(&menu.sheet, &mut keys).expect("a load"),
+        ))
+    })
+}
+
+/// Three layers, each turned.
+pub fn uvs() -> Both {
+    let layer = [0.0, 0.0, 1.0, 0.0, 0.0, 1.0, 1.0, 1.0];
+    let srt = [0.25, -0.5, 30.0, 2.0, 0.5];
+    let (layers, srts) = ([layer; 3], [srt; 3]);
+    let published = (
+        layers.map(|l| texture_uv(&l)),
+        srts.map(|s| texture_srt(&s)),
+    );
+    let mut out = [0.0; 24];
+    side_by_side(
+        &mut || {
+            let (layers, srts) = (black_box(&layers), black_box(&srts));
+            dovebolt::uvs_into(layers.as_flattened(), srts.as_flattened(), &mut out).expect("uvs");
+        },
+        &mut || {
+            let (layers, srts) = black_box(&published);
+            black_box(PaneNode::apply_srt_to_uvs(
+                PaneNode::compute_uvs(layers),
+                srts,
+            ));
+        },
+    )
+}
+
+pub fn corners() -> Both {
+    let ours = (
+        Vector2f { x: 10.0, y: 20.0 },
+        Vector2f { x: 4.0, y: 2.0 },
+        Vector3f {
+            x: 10.0,
+            y: 20.0,
+            z: 30.0,
+        },
+    );
+    let (center, size) = (
+        types::Vector2f::new(10.0, 20.0),
+        types::Vector2f::new(4.0, 2.0),
+    );
+    let rotation = types::Vector3f {
+        x: 10.0,
+        y: 20.0,
+        z: 30.0,
+    };
+    let (across, down) = (HorizontalPosition::Center, VerticalPosition::Center);
+    side_by_side(
+        &mut || {
+            let (center, size, rotation) = black_box(ours);
+            black_box(dovebolt::corners(center, size, 0, 0, rotation).expect("corners"));
+        },
+        &mut || {
+            let (center, size, rotation) = black_box((center, size, rotation));
+            black_box(Corners::compute(center, size, &across, &down, rotation));
+        },
+    )
+}
