@@ -6,3 +6,4 @@ pub mod Steps
 pub mod Loaded
 pub mod Theorem
 pub mod Declined
+pub mod Known
