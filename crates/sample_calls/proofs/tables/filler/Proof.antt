@@ -1,0 +1,14 @@
+use lib.Ieee.{nanBits}
+use borrow.Author.Needs.{needs}
+use Rattle.sample_calls.proofs.tables.filler.Statement.{statement}
+use Rattle.sample_calls.proofs.tables.filler.Tie as tie
+
+float-from-bits-result : tie.Need-float-from-bits-result
+unfolding nanBits
+float-from-bits-result c = tt
+
+returns : tie.Need-returns
+returns c = search needs
+
+pub filler-spec : {M : Type 1} → statement M
+filler-spec = tie.close (tie.spec float-from-bits-result returns)
