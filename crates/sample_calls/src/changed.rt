@@ -1,11 +1,11 @@
 // What a sample sets by hand between calls: a field of the player, or a key.
-use crate::bytes::byte_in;
-use crate::bytes::count_in;
-use crate::bytes::number_in;
-use crate::bytes::u64_in;
 use curve::Key;
 use player::Player;
 use player::journal::Entry;
+use sample_answers::bytes::byte_in;
+use sample_answers::bytes::count_in;
+use sample_answers::bytes::number_in;
+use sample_answers::bytes::u64_in;
 
 // The first field that is one of a journal's row.
 const ROW: u8 = 10;

@@ -1,19 +1,16 @@
 // The family of lists of calls. A record is a list: how long the sheet and the book are, how many calls follow (u16 each), zero u16; the sheet, which
 // loading accepts; the book, which may be damaged; the calls. Each call is a case, made through crate `menu` alone: its code and its refusal
 // (u8 each), its arguments, its answer, and the state after it. oracle/cases/src/calls/sample/case.rs lists the calls.
-mod answers;
-mod bytes;
 mod changed;
 mod moved;
 mod read;
-mod state;
-mod tables;
 
-use bytes::byte_in;
-use bytes::count_in;
 use player::Player;
 use sample::Step;
-use state::STATE;
+use sample_answers::bytes::byte_in;
+use sample_answers::bytes::count_in;
+use sample_answers::state::STATE;
+use sample_answers::state::same_state;
 ghost use mathlib.Core.Path.{_≡_};
 ghost use Prim.Native.Nat.{ℕ, _+_, _<_, _≤_};
 ghost use lib.ListN.{length};
@@ -196,7 +193,7 @@ fn case<'a>(
     let made = step(p, short, sheet, book, frames, values, slopes, c);
     let player = made.player;
     let size = made.size;
-    let same = state::same_state(player, frames, values, slopes, c, size);
+    let same = same_state(player, frames, values, slopes, c, size);
     Done {
         player,
         short: shortened(short, c),

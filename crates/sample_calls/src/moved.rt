@@ -1,11 +1,11 @@
 // The calls that move the player: play, pose and tick; and both edits, undo and redo.
 use crate::Made;
-use crate::answers::tick_number;
-use crate::bytes::byte_in;
-use crate::bytes::number_in;
-use crate::bytes::u16_in;
 use menu::Played;
 use player::Player;
+use sample_answers::answers::tick_number;
+use sample_answers::bytes::byte_in;
+use sample_answers::bytes::number_in;
+use sample_answers::bytes::u16_in;
 ghost use Prim.Native.Nat.{ℕ, _<_, _≤_};
 
 // Calls by their codes.

@@ -44,12 +44,14 @@ same-length-2 c = search needs
 same-length-3 : tie.Need-same-length-3 Inv-loop μ-loop
 same-length-3 c = search needs
 
+-- a damaged record ends where it begins, and has no cases
 returns : tie.Need-returns Inv-loop μ-loop
 returns c =
     let d = c .damaged .ensures in
     let p = c .before .before .before .before .before .before .before .before .before .before .before .before .before .before .before .before .before .before .before .before .before .before .pre in
     record { within = omega (arith, d, p); counted = omega (arith, d, p); fewer = omega (arith, d) }
 
+-- the test said that the call is there whole; so below
 add-next : tie.Need-add-next Inv-loop μ-loop
 add-next c = omega (arith, c .before .before .if1 .left, c .before .before .before .before .before .before .before .before .before .before .before .before .before .before .before .before .loop .inv, c .before .before .before .before .before .before .before .before .before .before .case .ensures, c .before .before .before .before .before .before .before .before .before .before .before .before .before .before .before .before .before .before .before .before .before .before .before .good)
 
@@ -62,6 +64,7 @@ add-i c = omega (arith, c .before .before .before .before .before .before .befor
 loop-less : tie.Need-loop-less Inv-loop μ-loop
 loop-less c = omega (arith, c .before .before .before .before .before .before .before .before .before .before .before .before .before .before .before .before .loop-test)
 
+-- each call takes a byte at least, and differs at most once
 loop-again : tie.Need-loop-again Inv-loop μ-loop
 loop-again c =
     let v = c .before .before .before .before .before .before .before .before .before .before .before .before .before .before .before .before .before .loop .inv in

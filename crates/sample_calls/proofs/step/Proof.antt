@@ -34,6 +34,7 @@ kept-requires-3 c κs = search needs
 slice-relend-prefix-call : tie.Need-slice-relend-prefix-call
 slice-relend-prefix-call c = search needs
 
+-- a part of so many elements of a longer list has so many; so below
 slice-aggregate-call : tie.Need-slice-aggregate-call
 slice-aggregate-call c = simp length-take (omega arith)
 

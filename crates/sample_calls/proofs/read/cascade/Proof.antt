@@ -37,6 +37,7 @@ array-borrow-prefix-influence c = search needs
 slice-aggregate-cascade-into-3 : tie.Need-slice-aggregate-cascade-into-3
 slice-aggregate-cascade-into-3 c = simp length-take (omega arith)
 
+-- all parts have as many elements
 cascade-into-requires : tie.Need-cascade-into-requires
 cascade-into-requires c κs = (simp length-take (omega arith), simp length-take (omega arith), simp length-take (omega arith))
 

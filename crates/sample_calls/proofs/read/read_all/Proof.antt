@@ -27,6 +27,7 @@ array-borrow-prefix-numbers c = search needs
 slice-aggregate-read-into-2 : tie.Need-slice-aggregate-read-into-2
 slice-aggregate-read-into-2 c = simp length-take (omega arith)
 
+-- both parts have as many elements
 read-into-requires : tie.Need-read-into-requires
 read-into-requires c κs = (simp length-take (omega arith), simp length-take (omega arith))
 
