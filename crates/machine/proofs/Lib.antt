@@ -7,3 +7,4 @@ pub mod Loaded
 pub mod Theorem
 pub mod Declined
 pub mod Exactly
+pub mod Known

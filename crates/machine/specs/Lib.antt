@@ -3,3 +3,5 @@ pub mod Asks
 pub mod Calls
 pub mod Plain
 pub mod Table
+pub mod Small
+pub mod Poses

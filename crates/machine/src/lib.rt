@@ -1,1 +1,1 @@
-// The plain machine and the claim over every list of calls are in specs/ and proofs/; there is no code here.
+// The plain machine, the claim over every list of calls, and the known poses are in specs/ and proofs/; there is no code here.

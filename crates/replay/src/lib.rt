@@ -18,6 +18,8 @@ const UVS: u8 = 4;
 
 const CORNERS: u8 = 5;
 
+const CALLS: u8 = 6;
+
 // How many bytes a sample's head takes.
 const HEAD: usize = 8;
 
@@ -42,6 +44,7 @@ fn record(family: u8, s: &[u8], at: usize) -> Step
         BOOKS => sample_formats::record(true, s, at),
         UVS => sample_shapes::uvs::record(s, at),
         CORNERS => sample_shapes::corners::record(s, at),
+        CALLS => sample_calls::record(s, at),
         _ => sample::damaged(at),
     }
 }
@@ -111,6 +114,7 @@ fn say_family(family: u8) {
         BOOKS => say(b"books"),
         UVS => say(b"uvs"),
         CORNERS => say(b"corners"),
+        CALLS => say(b"calls"),
         _ => say(b"unknown"),
     }
 }

@@ -1,0 +1,95 @@
+-- The known poses (specs/Poses): the whole table holds of the definitions, computed by antt in one go. What is computed goes through all of the
+-- definitions named here, crate by crate.
+use lib.Dec.{T}
+use lib.Ieee.{round, ofBits, toBits, add, sub, mul, div, rem, neg, lt, le, eq, ofInt, toUnsigned, isNan}
+use Rattle.laws.specs.Below.{allBelow}
+use Rattle.laws.specs.First.{firstBelow}
+use Rattle.laws.specs.Last.{lastBelow}
+use Rattle.laws.specs.Sum.{sumBelow}
+use Rattle.laws.specs.Grown.{grow}
+use Rattle.laws.specs.Refusals.{unless}
+use Rattle.laws.specs.Table.{table}
+use Rattle.float.specs.Numbers.{sameBits}
+use Rattle.float.specs.Clamp.{clampOf, maxOf}
+use Rattle.float.specs.Rising.{notBelow, risingIn}
+use Rattle.float.specs.StepValue.{wholeIn16}
+use Rattle.float.specs.Whole.{wholeOf}
+use Rattle.float.specs.Turn.{third, reduced, quotient, sineOf, cosineOf, wholePart, mod4}
+use Rattle.float.specs.SinCos.{sinCosOf}
+use Rattle.field.specs.Read.{u16At, u32At, floatAt, finiteAt, finiteIn, finiteRow}
+use Rattle.field.specs.Name.{sameByte, sameName, zeroByte, emptyName, rowNamed, findName, otherName, nameOk, namesOk}
+use Rattle.sheet.specs.Sheet as sheet
+use Rattle.sheet.specs.Rows.{animationRow, contentRow, targetRow}
+use Rattle.book.specs.Book as book
+use Rattle.book.specs.Rows.{paneRow}
+use Rattle.keys.specs.Rules.{finiteKey, constantKey, stepKey, curveOk, trackOk}
+use Rattle.keys.specs.Keys.{keysFit, heldTrack, keysOk}
+use Rattle.keys.specs.Stored.{storedFrames, storedValues, storedSlopes}
+use Rattle.keys.specs.Load.{loadRefusal, loadOf}
+use Rattle.curve.specs.Keys.{before}
+use Rattle.curve.specs.Span.{spanOf}
+use Rattle.curve.specs.Curve.{curveTaken, valueOf, evalCurve}
+use Rattle.geometry.specs.Declined as declined
+use Rattle.geometry.specs.Uvs as uvs
+use Rattle.geometry.specs.Corners.{rotated, startOf, cornersOf}
+use Rattle.geometry.specs.Calls.{uvsOf, placedOf}
+use Rattle.channel.specs.Channel.{familyOf, listed, paneChannel, colourPlace, materialChannel, ofPane, ofMaterial, paneNamed, materialNamed, contentReach, activeReach, address, rowChannel, targetChannel}
+use Rattle.reading.specs.Reading.{valueAt, value16At, levelOf, rowOf, rowReading, targetReading, lastTarget, reading}
+use Rattle.resolve.specs.Resolve.{paneNumber, visibleOf, alphaOf}
+use Rattle.resolve.specs.Cascade.{under, above, rowFrom, cascade, visibles, alphas, influences}
+use Rattle.player.specs.Keys.{keyAt, putKey}
+use Rattle.player.specs.Player.{freshPlayer, selectionOk, hasKey, usedOk, countsOk, playerOk}
+use Rattle.player.specs.View.{playView, poseView, ticks, tickSum, countOf, wraps, tickFrame, tickEnds, endOf, tickView, tickAnswer}
+use Rattle.player.specs.Edit.{place, spotOf, lowest, highest, clampedFrame, editedFrame, editedValue, editedAt, edited, overtakes, requestRefusal, keyIn, editRefusal}
+use Rattle.menu.specs.Calls.{lengthsOk, checkPlayer, checkKeys, playRest, poseRest, tickMoves, tickRest, playOf, poseOf, tickOf, editOf, loadedOf}
+use Rattle.menu.specs.Readings.{checkBook, activeIn, paneChannelRest, materialChannelRest, cascadeRest, oneOf, rowsOf, readPaneOf, readMaterialOf, cascadeOf}
+use Rattle.machine.specs.Small as small
+use Rattle.machine.specs.Poses as poses
+
+laws : Unit {0}
+unfolding allBelow firstBelow lastBelow sumBelow grow unless table
+laws = tt
+
+numbers : Unit {0}
+unfolding round ofBits toBits add sub mul div rem neg lt le eq ofInt toUnsigned isNan sameBits clampOf maxOf notBelow risingIn wholeIn16 wholeOf third reduced quotient sineOf cosineOf wholePart mod4 sinCosOf
+numbers = tt
+
+fields : Unit {0}
+unfolding u16At u32At floatAt finiteAt finiteIn finiteRow sameByte sameName zeroByte emptyName rowNamed findName otherName nameOk namesOk
+fields = tt
+
+formats : Unit {0}
+unfolding sheet.sizesOk sheet.lengthOk sheet.animationOk sheet.contentOk sheet.targetFrom sheet.keysOf sheet.targetOk sheet.targetsOk sheet.sheetOk animationRow contentRow targetRow book.sizesOk book.paneOk book.materialOk book.bookOk paneRow
+formats = tt
+
+keys : Unit {0}
+unfolding finiteKey constantKey stepKey curveOk trackOk keysFit heldTrack keysOk storedFrames storedValues storedSlopes loadRefusal loadOf
+keys = tt
+
+curves : Unit {0}
+unfolding before spanOf curveTaken valueOf evalCurve
+curves = tt
+
+shapes : Unit {0}
+unfolding declined.finiteAt declined.allFinite declined.angleAt declined.anglesPass declined.uvsRefusal declined.rotationRefusal declined.cornersRefusal uvs.transformOf uvs.unitSquare uvs.layerUv uvs.cornerUvs uvs.cornerDone uvs.layerApplied uvs.numberOf rotated startOf cornersOf uvsOf placedOf
+shapes = tt
+
+readings : Unit {0}
+unfolding familyOf listed paneChannel colourPlace materialChannel ofPane ofMaterial paneNamed materialNamed contentReach activeReach address rowChannel targetChannel valueAt value16At levelOf rowOf rowReading targetReading lastTarget reading paneNumber visibleOf alphaOf under above rowFrom cascade visibles alphas influences
+readings = tt
+
+player : Unit {0}
+unfolding keyAt putKey freshPlayer selectionOk hasKey usedOk countsOk playerOk playView poseView ticks tickSum countOf wraps tickFrame tickEnds endOf tickView tickAnswer place spotOf lowest highest clampedFrame editedFrame editedValue editedAt edited overtakes requestRefusal keyIn editRefusal
+player = tt
+
+calls : Unit {0}
+unfolding lengthsOk checkPlayer checkKeys playRest poseRest tickMoves tickRest playOf poseOf tickOf editOf loadedOf checkBook activeIn paneChannelRest materialChannelRest cascadeRest oneOf rowsOf readPaneOf readMaterialOf cascadeOf
+calls = tt
+
+pose-table : Unit {0}
+unfolding small.over small.minus small.whole small.u16 small.f32 small.name small.allKeys small.contents small.targets small.frames small.points small.sheet small.pane small.book poses.bits poses.told poses.readOne poses.met poses.ticked poses.loaded poses.posed poses.playing poses.readPane poses.readMaterial poses.paneTrack poses.colourTrack poses.moves poses.still poses.shows poses.colours poses.fades poses.curveAt poses.tickAt poses.editTo poses.uvUnder poses.topLeft poses.childAlpha poses.poses poses.same poses.right
+pose-table = tt
+
+pub known : T (poses.right poses.poses)
+unfolding laws numbers fields formats keys curves shapes readings player calls pose-table
+known = tt

@@ -1,0 +1,261 @@
+-- Document 01, "Known poses" and its misreadings: one table, in that section's order. Each row names what is computed, by the definitions that the
+-- contracts of the outward functions cite, and what it must be. Readings, ticks, edits and the cascade are made by calls on whole sheets and
+-- books: the sheet is loaded, and played or posed by its calls. Definitions only.
+use Prim.Native.Nat.{ℕ}
+use mathlib.Core.Bool.{Bool, true, false, _&&_, cond}
+use mathlib.Core.List.{List, [], _∷_, map}
+use lib.Dec.{eqb}
+use lib.ListN.{replicate, getD, take}
+use lib.Ieee.{Float, binary32, nan, toBits}
+use Rattle.float.specs.Numbers.{zero'}
+use Rattle.sheet.specs.Sizes.{keyCount}
+use Rattle.curve.specs.declared.Key.{Key}
+use Rattle.curve.specs.Curve.{kindConstant, kindStep, kindHermite}
+use Rattle.geometry.specs.Calls.{uvsOf, placedOf}
+use Rattle.reading.specs.declared.Reading.{Reading}
+use Rattle.reading.specs.declared.Reading.the-variants.{Nothing, Number, Shown, Row, Level}
+use Rattle.player.specs.declared.Player.{Player}
+use Rattle.player.specs.declared.Tick.{Tick}
+use Rattle.player.specs.declared.Tick.the-variants.{Idle, Running, Ended, Next}
+use Rattle.player.specs.declared.edit.Request.the-variants as request
+use Rattle.player.specs.Keys.{Keys, keys}
+use Rattle.player.specs.Player.{freshPlayer}
+use Rattle.menu.specs.declared.playing.Ticked.{Ticked}
+use Rattle.menu.specs.declared.readings.ReadOne.{ReadOne}
+use Rattle.menu.specs.Calls.{Changed, loadedOf, playOf, poseOf, tickOf, editOf}
+use Rattle.menu.specs.Readings.{Rows, readPaneOf, readMaterialOf, cascadeOf}
+use Rattle.machine.specs.Small.{over, minus, whole, Track, sheet, book, parent, child, material}
+
+-- ---- answers as numbers: a refusal first, and an f32 by its bits
+
+unfoldable pub bits : Float → ℕ
+bits x = toBits binary32 x
+
+-- what a reading answers, by document 01's order: nothing, a number, shown or hidden, a texture row, a level
+unfoldable pub told : Reading → List ℕ
+told Nothing = 0 ∷ []
+told (Number v) = 1 ∷ bits v ∷ []
+told (Shown b) = 2 ∷ cond b 1 0 ∷ []
+told (Row k) = 3 ∷ k ∷ []
+told (Level l) = 4 ∷ l ∷ []
+
+unfoldable pub readOne : ReadOne → List ℕ
+readOne r = r .refusal ∷ told (r .reading)
+
+-- what a tick answers: idle, running, ended, ended with a next name
+unfoldable pub met : Tick → ℕ
+met Idle = 0
+met Running = 1
+met Ended = 2
+met Next = 3
+
+unfoldable pub ticked : Ticked → List ℕ
+ticked r = r .refusal ∷ met (r .answer) ∷ bits (r .player .frame) ∷ []
+
+-- ---- calls on a sheet
+
+-- its keys, loaded
+unfoldable pub loaded : List ℕ → Keys
+loaded s = let blank = replicate (keyCount s) zero' in loadedOf s (keys blank blank blank) .keys
+
+-- a fresh player posed at x, and one that plays and has come to frame x
+unfoldable pub posed : List ℕ → Float → Player
+posed s x = poseOf s freshPlayer 0 x .player
+
+unfoldable pub playing : List ℕ → Float → Player
+playing s x = tickOf s (playOf s freshPlayer 0 .player) x (whole 1) .player
+
+-- flags of a pane: visible, and influencing alpha
+abbrev pub visible : ℕ
+visible = 1
+
+abbrev pub influences : ℕ
+influences = 3
+
+-- channel c of the parent, and of the material, at x
+unfoldable pub readPane : List ℕ → Float → ℕ → List ℕ
+readPane s x c = readOne (readPaneOf s (book influences) (posed s x) (loaded s) 0 c)
+
+unfoldable pub readMaterial : List ℕ → Float → ℕ → List ℕ
+readMaterial s x c = readOne (readMaterialOf s (book influences) (posed s x) (loaded s) 0 c)
+
+-- ---- the sheets
+
+abbrev pub key : Float → Float → Float → Key
+key frame value slope = record { frame = frame; value = value; slope = slope }
+
+-- four letters, content types, raw numbers and channels
+abbrev pub FLPA : List ℕ
+FLPA = 70 ∷ 76 ∷ 80 ∷ 65 ∷ []
+
+abbrev pub FLVI : List ℕ
+FLVI = 70 ∷ 76 ∷ 86 ∷ 73 ∷ []
+
+abbrev pub FLVC : List ℕ
+FLVC = 70 ∷ 76 ∷ 86 ∷ 67 ∷ []
+
+abbrev pub FLMC : List ℕ
+FLMC = 70 ∷ 76 ∷ 77 ∷ 67 ∷ []
+
+abbrev pub paneType : ℕ
+paneType = 0
+
+abbrev pub materialType : ℕ
+materialType = 1
+
+abbrev pub translateX : ℕ
+translateX = 0
+
+abbrev pub visibleChannel : ℕ
+visibleChannel = 10
+
+abbrev pub paneAlpha : ℕ
+paneAlpha = 16
+
+abbrev pub whiteRed : ℕ
+whiteRed = 26
+
+-- a track of the pane with this label, and of the material
+unfoldable pub paneTrack : ℕ → List ℕ → ℕ → ℕ → List Key → Track
+paneTrack label code raw curve ks = record { kind = paneType; named = label; code = code; raw = raw; curve = curve; keys = ks }
+
+unfoldable pub colourTrack : ℕ → List Key → Track
+colourTrack raw ks = record { kind = materialType; named = material; code = FLMC; raw = raw; curve = kindConstant; keys = ks }
+
+-- a curve that moves the parent
+unfoldable pub moves : ℕ → List Key → List ℕ
+moves curve ks = sheet 60 0 (paneTrack parent FLPA translateX curve ks ∷ [])
+
+-- 60 frames of nothing, looping (1) or not (0)
+unfoldable pub still : ℕ → List ℕ
+still looping = sheet 60 looping []
+
+-- the parent is shown by a curve of one value
+unfoldable pub shows : Float → List ℕ
+shows v = sheet 60 0 (paneTrack parent FLVI 0 kindConstant (key zero' v zero' ∷ []) ∷ [])
+
+-- the material's colour of this raw number is 7
+unfoldable pub colours : ℕ → List ℕ
+colours raw = sheet 60 0 (colourTrack raw (key zero' (whole 7) zero' ∷ []) ∷ [])
+
+-- parent and child have alpha 0.5, which is 127.5 / 255
+unfoldable pub fades : List ℕ
+fades =
+    let half = key zero' (over 255 2) zero' ∷ [] in
+    sheet 60 0 (paneTrack parent FLVC paneAlpha kindConstant half ∷ paneTrack child FLVC paneAlpha kindConstant half ∷ [])
+
+-- ---- what is computed
+
+-- a curve at x
+unfoldable pub curveAt : ℕ → List Key → Float → List ℕ
+curveAt curve ks x = readPane (moves curve ks) x translateX
+
+-- a tick of a sheet that plays at frame x
+unfoldable pub tickAt : List ℕ → Float → Float → Float → List ℕ
+tickAt s x dt fps = ticked (tickOf s (playing s x) dt fps)
+
+-- key 0 moved to frame x, its value 1 kept: the frames that stand afterwards
+unfoldable pub editTo : List ℕ → Float → List ℕ
+editTo s x = let r = editOf s (posed s zero') (loaded s) 0 0 (request.Key x (whole 1)) in r .refusal ∷ map bits (r .keys .frames)
+
+-- a layer whose corners all have this pair, under an SRT: the pair of the top left corner
+unfoldable pub uvUnder : List Float → Float → Float → List ℕ
+uvUnder srt u v = let r = uvsOf (u ∷ v ∷ u ∷ v ∷ u ∷ v ∷ u ∷ v ∷ []) srt (replicate 24 zero') in r .refusal ∷ map bits (take 2 (r .out))
+
+-- centre (10, 20), size (4, 2), with these origins and no rotation: the top left corner
+unfoldable pub topLeft : ℕ → ℕ → List ℕ
+topLeft across down =
+    let r = placedOf (record { x = whole 10; y = whole 20 }) (record { x = whole 4; y = whole 2 }) across down (record { x = zero'; y = zero'; z = zero' }) in
+    r .refusal ∷ bits (r .corners .topleft .x) ∷ bits (r .corners .topleft .y) ∷ []
+
+-- the child's alpha, its parent's flags being these
+unfoldable pub childAlpha : ℕ → List ℕ
+childAlpha flags =
+    let two = replicate 2 zero' in
+    let r = cascadeOf fades (book flags) (posed fades zero') (loaded fades) (replicate 2 0) two two in
+    r .refusal ∷ bits (getD (r .alpha) 1 nan) ∷ []
+
+-- ---- the table
+
+-- what is computed, and what it must be
+pub record Pose : Type 0 where
+  pub computed : List ℕ
+  pub stated : List ℕ
+
+infix 68 _gives_
+abbrev pub _gives_ : List ℕ → List ℕ → Pose
+computed gives stated = record { computed = computed; stated = stated }
+
+-- accepted, and read as a number; a frame that runs on, and one that ended
+abbrev pub number : Float → List ℕ
+number x = 0 ∷ 1 ∷ bits x ∷ []
+
+abbrev pub running : Float → List ℕ
+running x = 0 ∷ 1 ∷ bits x ∷ []
+
+abbrev pub ended : Float → List ℕ
+ended x = 0 ∷ 2 ∷ bits x ∷ []
+
+-- accepted, with these numbers
+abbrev pub accepted : List Float → List ℕ
+accepted xs = 0 ∷ map bits xs
+
+abbrev pub hidden : List ℕ
+hidden = 0 ∷ 2 ∷ 0 ∷ []
+
+abbrev pub level : ℕ → List ℕ
+level l = 0 ∷ 4 ∷ l ∷ []
+
+unfoldable pub poses : List Pose
+poses =
+    -- Keys (0,0,0),(8,16,0): frame 4 gives 8, frame 2 gives 2.5.
+    curveAt kindHermite (key zero' zero' zero' ∷ key (whole 8) (whole 16) zero' ∷ []) (whole 4) gives number (whole 8)
+    ∷ curveAt kindHermite (key zero' zero' zero' ∷ key (whole 8) (whole 16) zero' ∷ []) (whole 2) gives number (over 5 2)
+    -- (0,1,2),(4,5,−2) at 2: 5.
+    ∷ curveAt kindHermite (key zero' (whole 1) (whole 2) ∷ key (whole 4) (whole 5) (minus 2) ∷ []) (whole 2) gives number (whole 5)
+    -- No keys: 0.
+    ∷ curveAt kindConstant [] (whole 3) gives number zero'
+    ∷ curveAt kindStep [] (whole 3) gives number zero'
+    ∷ curveAt kindHermite [] (whole 3) gives number zero'
+    -- Step 10→7, frame 3: 7.
+    ∷ curveAt kindStep (key (whole 10) (whole 7) zero' ∷ []) (whole 3) gives number (whole 7)
+    -- Constant 4, 6 at 9.9: 6; at −1: 4.
+    ∷ curveAt kindConstant (key zero' (whole 4) zero' ∷ key zero' (whole 6) zero' ∷ []) (over 99 10) gives number (whole 6)
+    ∷ curveAt kindConstant (key zero' (whole 4) zero' ∷ key zero' (whole 6) zero' ∷ []) (minus 1) gives number (whole 4)
+    -- Frame 58, dt 0.5, fps 8, count 60: looping 2, else 60 and ended.
+    ∷ tickAt (still 1) (whole 58) (over 1 2) (whole 8) gives running (whole 2)
+    ∷ tickAt (still 0) (whole 58) (over 1 2) (whole 8) gives ended (whole 60)
+    -- Looping 60 of 60: 0.
+    ∷ tickAt (still 1) (whole 58) (over 1 4) (whole 8) gives running zero'
+    -- Key 0, next 5, edit −4: 0.
+    ∷ editTo (moves kindHermite (key (whole 2) (whole 1) zero' ∷ key (whole 5) (whole 3) zero' ∷ [])) (minus 4) gives accepted (zero' ∷ whole 5 ∷ [])
+    -- UV (1,0), translate (0.25,0), rotate 0, scale (2,1): (1.75,0).
+    ∷ uvUnder (over 1 4 ∷ zero' ∷ zero' ∷ whole 2 ∷ whole 1 ∷ []) (whole 1) zero' gives accepted (over 7 4 ∷ zero' ∷ [])
+    -- Centre (10,20), size (4,2), Center: top left (8,19); Left, Top: (10,20).
+    ∷ topLeft 0 0 gives accepted (whole 8 ∷ whole 19 ∷ [])
+    ∷ topLeft 1 1 gives accepted (whole 10 ∷ whole 20 ∷ [])
+    -- Parent and child alpha 0.5: child 0.25, or 0.5 if the parent's bit 1 is off.
+    ∷ childAlpha influences gives accepted (over 1 4 ∷ [])
+    ∷ childAlpha visible gives accepted (over 1 2 ∷ [])
+    -- Misreadings: rounding the visible value (0.9 hides);
+    ∷ readPane (shows (over 9 10)) zero' visibleChannel gives hidden
+    -- taking the last of two equal frames at a Hermite start (it is the first);
+    ∷ curveAt kindHermite (key (whole 2) (whole 3) zero' ∷ key (whole 2) (whole 5) zero' ∷ key (whole 6) (whole 9) zero' ∷ []) (whole 2) gives number (whole 3)
+    -- holding Color0..Color4 in places of their own. (Their reds are the raw numbers 8, 12, .. 24; all stand in white's place.)
+    ∷ readMaterial (colours 8) zero' whiteRed gives level 7
+    ∷ readMaterial (colours 12) zero' whiteRed gives level 7
+    ∷ readMaterial (colours 16) zero' whiteRed gives level 7
+    ∷ readMaterial (colours 20) zero' whiteRed gives level 7
+    ∷ readMaterial (colours 24) zero' whiteRed gives level 7
+    ∷ []
+
+unfoldable pub same : List ℕ → List ℕ → Bool
+same [] [] = true
+same [] (y ∷ ys) = false
+same (x ∷ xs) [] = false
+same (x ∷ xs) (y ∷ ys) = eqb x y && same xs ys
+
+-- each row of a table is as stated
+unfoldable pub right : List Pose → Bool
+right [] = true
+right (p ∷ ps) = same (p .computed) (p .stated) && right ps

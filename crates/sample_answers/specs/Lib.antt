@@ -1,0 +1,3 @@
+-- Answers and states of calls as samples store them.
+pub mod State
+pub mod Answers

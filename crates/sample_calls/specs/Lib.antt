@@ -1,0 +1,2 @@
+-- Stored lists of calls.
+pub mod Ran
