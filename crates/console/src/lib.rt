@@ -1,12 +1,9 @@
 // The commands of the command line. A command line is a text with a word a line; every outcome is a line on standard output.
-mod arguments;
 mod check;
-mod file;
 mod frames;
-mod usage;
+mod open;
 
-use arguments::argument;
-use usage::usage;
+use command::argument;
 
 // One command.
 pub fn run(line: &[u8]) {
@@ -16,21 +13,21 @@ pub fn run(line: &[u8]) {
         return;
     }
     if words::same(name, b"frames") {
-        frames::frames(line);
+        open::open(line, false);
         return;
     }
     if name.len() > 0 {
         if !words::same(name, b"help") {
-            usage::unknown(name);
+            command::unknown(name);
         }
     }
-    usage();
+    command::usage();
 }
 
 // The whole program: the command that its arguments are.
 pub fn start() {
     let mut line = [0u8; 8192];
-    let n = arguments::join(&mut line);
+    let n = command::join(&mut line);
     if n == 8192 {
         printed::say(b"error: the arguments are longer than 8,191 bytes together\n");
         return;

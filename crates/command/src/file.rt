@@ -2,6 +2,9 @@
 use printed::say;
 ghost use Rattle.io.specs.Counts.{Counts};
 
+// One byte more than the longest sheet has; a book is shorter.
+pub const LONGEST: usize = 31725;
+
 fn complain(path: &[u8], what: &[u8]) {
     say(path);
     say(b": ");
@@ -25,7 +28,7 @@ pub fn read(path: &[u8], buf: &mut [u8]) -> usize
         return 0;
     }
     if n == buf.len() {
-        complain(path, b"is too long for a sheet (31,724 bytes at most) or a book (9,604)");
+        complain(path, b"is too long: a sheet has 31,724 bytes at most, a book 9,604");
         return 0;
     }
     n

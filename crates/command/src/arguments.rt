@@ -25,15 +25,17 @@ pub fn quiet(line: &[u8]) -> bool {
 // Which word is number k, where those that ask for no progress are not counted.
 fn place(line: &[u8], k: usize) -> usize {
     let mut seen = 0;
-    let mut i = 0;
-    while i < MOST {
-        if !is_quiet(words::line(line, i)) {
-            if seen == k {
-                return i;
-            }
-            seen += 1;
+    let mut next = 0;
+    while next < MOST {
+        let i = next;
+        next += 1;
+        if is_quiet(words::line(line, i)) {
+            continue;
         }
-        i += 1;
+        if seen == k {
+            return i;
+        }
+        seen += 1;
     }
     MOST
 }

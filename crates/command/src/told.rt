@@ -1,5 +1,7 @@
 // What the commands are.
+use libc::STDERR_FILENO;
 use printed::say;
+ghost use Prim.Native.Nat.{_<_};
 
 pub fn usage() {
     say(b"menu_cli check SHEET [BOOK]\n");
@@ -35,4 +37,17 @@ pub fn too_many(word: &[u8]) {
     say(b"error: one word too many: ");
     say(word);
     say(b"; menu_cli help says what a command takes\n");
+}
+
+// How much is done, on standard error, each time `every` more are.
+pub fn progress(quiet: bool, done: u64, every: u64, what: &[u8])
+    requires { ⌜ 0 < every ⌝ }
+{
+    if quiet {
+        return;
+    }
+    if done % every == 0 {
+        io::print_decimal(STDERR_FILENO, done);
+        io::write_all(STDERR_FILENO, what);
+    }
 }
