@@ -1,8 +1,8 @@
 // Makes a call and writes its answer: `ok`, what was asked for, or the refusal in words.
-mod keys;
 mod resolved;
 mod shown;
 mod state;
+mod tracks;
 
 use calls::Call;
 use calls::KEY;
@@ -38,9 +38,7 @@ fn change(
     match verb {
         PLAY => menu::play(p, s, c.first),
         POSE => menu::pose(p, s, c.first, c.x),
-        KEY => menu::key_edit(
-            p, s, frames, values, slopes, c.first, c.second, c.x, c.y,
-        ),
+        KEY => menu::key_edit(p, s, frames, values, slopes, c.first, c.second, c.x, c.y),
         SLOPE => menu::slope_edit(p, s, frames, values, slopes, c.first, c.second, c.x),
         UNDO => menu::undo(p, s, frames, values, slopes),
         _ => menu::redo(p, s, frames, values, slopes),

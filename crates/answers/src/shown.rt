@@ -1,9 +1,9 @@
 // The calls that show something and change nothing.
-use crate::keys::say_keys;
 use crate::refused;
 use crate::resolved::say_pane;
 use crate::resolved::say_srt;
 use crate::state::say_player;
+use crate::tracks::say_keys;
 use calls::CASCADE;
 use calls::Call;
 use calls::KEYS;
@@ -121,9 +121,7 @@ fn say_texture<'a>(
         return;
     }
     say(b"name ");
-    printed::say_name(menu::texture_name(
-        p, s, b, frames, values, slopes, c.first, c.second,
-    ));
+    printed::say_name(menu::texture_name(p, s, b, frames, values, slopes, c.first, c.second));
     say(b"\n");
 }
 
@@ -168,11 +166,16 @@ pub fn show<'a>(
             say(b"channels:\n");
             facts::say_readings(Lead::Nothing, p, s, b, frames, values, slopes)
         }
-        RESOLVE_PANE => say_pane(menu::resolve_pane(
-            p, s, b, frames, values, slopes, c.first,
-        )),
+        RESOLVE_PANE => say_pane(menu::resolve_pane(p, s, b, frames, values, slopes, c.first)),
         RESOLVE_SRT => say_srt(menu::resolve_srt(
-            p, s, b, frames, values, slopes, c.first, c.second,
+            p,
+            s,
+            b,
+            frames,
+            values,
+            slopes,
+            c.first,
+            c.second,
         )),
         NAME => say_texture(p, c, s, b, frames, values, slopes),
         NEXT => say_next(s, c.first),

@@ -30,13 +30,13 @@ fn plain_whole(w: &[u8]) -> u32 {
 fn channel_word(w: &[u8], pane: bool) -> u32 {
     if pane {
         let c = printed::pane_channel(w);
-        if c < 28 {
+        if c < printed::PANE_CHANNELS {
             return c as u32;
         }
         return plain_whole(w);
     }
     let c = printed::material_channel(w);
-    if c < 30 {
+    if c < printed::MATERIAL_CHANNELS {
         return c as u32;
     }
     plain_whole(w)

@@ -28,7 +28,10 @@ pub fn read(path: &[u8], buf: &mut [u8]) -> usize
         return 0;
     }
     if n == buf.len() {
-        complain(path, b"is too long: a sheet has 31,724 bytes at most, a book 9,604");
+        complain(
+            path,
+            b"is too long: a sheet has 31,724 bytes at most, a book 9,604",
+        );
         return 0;
     }
     n

@@ -1,8 +1,8 @@
 // The command `check`: a sheet by loading it (rows 1, 3 and 4 of the table), a book by its layout (row 2).
-use command::argument;
 use command::LONGEST;
-use command::read;
+use command::argument;
 use command::missing;
+use command::read;
 use command::too_many;
 use printed::say;
 ghost use Prim.Native.Nat.{_≤_};

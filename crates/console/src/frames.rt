@@ -1,10 +1,8 @@
 // The command `frames`: an animation posed at one frame after the other.
-use command::argument;
-use command::quiet;
 use command::Span;
-use command::whole_argument;
 use command::progress;
-use command::too_many;
+use command::quiet;
+use command::whole_argument;
 use facts::Lead;
 use player::Player;
 use printed::say;
@@ -113,11 +111,6 @@ pub fn frames_of<'a>(
 )
     requires { ⌜ Checked (now s) × CheckedBook (now b) ⌝ }
 {
-    let more = argument(line, 6);
-    if more.len() > 0 {
-        too_many(more);
-        return;
-    }
     let animation = animation_argument(line, s);
     if animation >= sheet::animation_count(s) {
         return;

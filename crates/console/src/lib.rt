@@ -2,6 +2,7 @@
 mod check;
 mod frames;
 mod open;
+mod replay;
 
 use command::argument;
 
@@ -14,6 +15,10 @@ pub fn run(line: &[u8]) {
     }
     if words::same(name, b"frames") {
         open::open(line, false);
+        return;
+    }
+    if words::same(name, b"replay") {
+        open::open(line, true);
         return;
     }
     if name.len() > 0 {

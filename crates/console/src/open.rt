@@ -1,11 +1,14 @@
 // What `frames` and `replay` begin with: the two files, checked, and the keys loaded.
-use command::argument;
 use crate::check::say_book;
 use crate::check::say_sheet;
-use command::LONGEST;
-use command::read;
 use crate::frames::frames_of;
+use crate::replay::replay;
+use command::LONGEST;
+use command::argument;
 use command::missing;
+use command::quiet;
+use command::read;
+use command::too_many;
 ghost use Prim.Native.Nat.{_≤_};
 ghost use lib.ListN.{length};
 ghost use Rattle.sheet.specs.Checked.{Checked};
@@ -29,6 +32,10 @@ fn with_keys<'a>(
         return;
     }
     let p = loaded.player;
+    if replaying {
+        replay(p, s, b, frames, values, slopes, quiet(line));
+        return;
+    }
     frames_of(line, p, s, b, frames, values, slopes);
 }
 
@@ -68,21 +75,19 @@ fn with_bytes<'a>(line: &[u8], replaying: bool, s: &'a [u8], b: &'a [u8]) {
     let mut frames = [0.0f32; 2048];
     let mut values = [0.0f32; 2048];
     let mut slopes = [0.0f32; 2048];
-    with_room(
-        line,
-        replaying,
-        s,
-        b,
-        &mut frames,
-        &mut values,
-        &mut slopes,
-    );
+    with_room(line, replaying, s, b, &mut frames, &mut values, &mut slopes);
 }
 
 // The command, from its files on.
 pub fn open(line: &[u8], replaying: bool) {
     if argument(line, 2).len() == 0 {
         missing(b"SHEET or BOOK");
+        return;
+    }
+    let most = if replaying { 3 } else { 6 };
+    let more = argument(line, most);
+    if more.len() > 0 {
+        too_many(more);
         return;
     }
     let mut sheet = [0u8; LONGEST];

@@ -3,16 +3,14 @@ use crate::lead::Lead;
 use crate::lead::say_lead;
 use crate::row::say_row;
 use player::Player;
+use printed::MATERIAL_CHANNELS;
+use printed::PANE_CHANNELS;
 use printed::say;
 use printed::say_count;
 ghost use Prim.Native.Nat.{_<_, _≤_};
 ghost use lib.ListN.{length};
 ghost use Rattle.book.specs.Checked.{CheckedBook};
 ghost use Rattle.book.specs.Sizes.{paneCount, materialCount};
-
-const PANE_CHANNELS: usize = 28;
-
-const MATERIAL_CHANNELS: usize = 30;
 
 // Channels of a pane and of a material that are no plain numbers.
 const VISIBLE: usize = 10;

@@ -17,7 +17,5 @@ pub fn say_row<'a>(
     say(b"row ");
     say_count(row as u64);
     say(b" ");
-    printed::say_name(menu::texture_name(
-        p, s, b, frames, values, slopes, material, slot,
-    ));
+    printed::say_name(menu::texture_name(p, s, b, frames, values, slopes, material, slot));
 }

@@ -165,15 +165,17 @@ fn say_about(negative: bool, size: f32) {
     if negative {
         say(b"-");
     }
+    if size >= 18446744073709551616.0 {
+        say(b"2^64+");
+        return;
+    }
+    say_count(float::cut_u64(size));
     if size < 8388608.0 {
-        say_count(float::cut_u64(size));
         let part = float::cut_u64(float::remainder(size, 1.0) * 1000.0);
         let mut text = [0u8; 4];
         let n = push_digits(&mut text, 0, part, ABOUT_SCALE);
         say(b".");
         say(&text[..n]);
-    } else {
-        say_count(float::cut_u64(size));
     }
 }
 

@@ -1,17 +1,10 @@
-use Prim.Native.Nat.{ℕ, _+_, _-_, _*_, _/_, _%_, _<_, _≤_}
-use mathlib.Core.Path.{_≡_, refl, sym, ap, _∙_}
-use native.Mathlib.Omega.{arith}
+use Prim.Native.Nat.{_≤_}
+use mathlib.Core.Path.{_≡_}
 use borrow.Author.Needs.{needs}
-use borrow.Author.Tests.{lt-ltb, le-ltb, eq-eqb, ne-eqb, le-leb, lt-leb, not-true, not-false}
 use Rattle.input.specs.Held.{Held}
-use lib.ListN.{length, getD, take, drop}
-use lib.Seq.{length-take-le}
+use lib.ListN.{length}
 use Rattle.input.proofs.next_line.Statement.{statement}
 use Rattle.input.proofs.next_line.Tie as tie
-use Rattle.input.proofs.next_line.Reads as reads
-use Rattle.input.proofs.next_line.Lts as lts
-use Rattle.input.proofs.refilled.Reads as refilled-reads
-use Rattle.input.proofs.stored.Reads as stored-reads
 
 abbrev Inv-loop : tie.InvT-loop
 Inv-loop piece₀ line₀ i₀ piece line i = (Held i (length piece) (length line)) × ((length piece ≡ length piece₀) × ((length line ≡ length line₀) × (i .left ≤ i₀ .left)))
@@ -19,71 +12,54 @@ Inv-loop piece₀ line₀ i₀ piece line i = (Held i (length piece) (length lin
 abbrev μ-loop : tie.MeasureT-loop
 μ-loop piece₀ line₀ i₀ piece line i = i .left
 
--- src/lib.rt:68:5
 loop-holds : tie.Need-loop-holds Inv-loop μ-loop
 loop-holds c = search needs
 
--- src/lib.rt:69:9
 refilled-requires : tie.Need-refilled-requires Inv-loop μ-loop
 refilled-requires c κs = search needs
 
--- src/lib.rt:72:13
 same-length : tie.Need-same-length Inv-loop μ-loop
 same-length c = search needs
 
--- src/lib.rt:72:13
 same-length-2 : tie.Need-same-length-2 Inv-loop μ-loop
 same-length-2 c = search needs
 
--- src/lib.rt:72:13
 returns : tie.Need-returns Inv-loop μ-loop
 returns c = search needs
 
--- src/lib.rt:74:17
 slice-read-b : tie.Need-slice-read-b Inv-loop μ-loop
 slice-read-b c = search needs
 
--- src/lib.rt:76:17
 add-stored : tie.Need-add-stored Inv-loop μ-loop
 add-stored c = search needs
 
--- src/lib.rt:77:19
 sub-t20 : tie.Need-sub-t20 Inv-loop μ-loop
 sub-t20 c = search needs
 
--- src/lib.rt:81:13
 same-length-3 : tie.Need-same-length-3 Inv-loop μ-loop
 same-length-3 c = search needs
 
--- src/lib.rt:81:13
 same-length-4 : tie.Need-same-length-4 Inv-loop μ-loop
 same-length-4 c = search needs
 
--- src/lib.rt:81:13
 returns-2 : tie.Need-returns-2 Inv-loop μ-loop
 returns-2 c = search needs
 
--- src/lib.rt:83:9
 stored-requires : tie.Need-stored-requires Inv-loop μ-loop
 stored-requires c κs = search needs
 
--- src/lib.rt:68:5
 loop-less : tie.Need-loop-less Inv-loop μ-loop
 loop-less c = search needs
 
--- src/lib.rt:68:5
 loop-again : tie.Need-loop-again Inv-loop μ-loop
 loop-again c = search needs
 
--- src/lib.rt:59:1
 same-length-5 : tie.Need-same-length-5 Inv-loop μ-loop
 same-length-5 c = search needs
 
--- src/lib.rt:59:1
 same-length-6 : tie.Need-same-length-6 Inv-loop μ-loop
 same-length-6 c = search needs
 
--- src/lib.rt:59:1
 returns-3 : tie.Need-returns-3 Inv-loop μ-loop
 returns-3 c = search needs
 

@@ -19,8 +19,10 @@ fn say_track(s: &[u8], track: usize, frames: &[f32], values: &[f32], slopes: &[f
     let row = sheet::target_row(s, track);
     let first = row.first;
     let count = row.count;
-    let mut i = 0;
-    while i < count {
+    let mut next = 0;
+    while next < count {
+        let i = next;
+        next += 1;
         say(b"track ");
         say_count(track as u64);
         say(b" key ");
@@ -30,7 +32,6 @@ fn say_track(s: &[u8], track: usize, frames: &[f32], values: &[f32], slopes: &[f
         say_key_number(b" value ", values, at);
         say_key_number(b" slope ", slopes, at);
         say(b"\n");
-        i += 1;
     }
 }
 
