@@ -1,0 +1,190 @@
+// The calls that show something and change nothing.
+use crate::refused;
+use crate::resolved::say_pane;
+use crate::resolved::say_srt;
+use crate::state::say_player;
+use crate::tracks::say_keys;
+use calls::CASCADE;
+use calls::Call;
+use calls::KEYS;
+use calls::NAME;
+use calls::NEXT;
+use calls::PLAYER;
+use calls::READ_ALL;
+use calls::READ_MATERIAL;
+use calls::READ_PANE;
+use calls::RESOLVE_PANE;
+use calls::RESOLVE_SRT;
+use facts::Lead;
+use menu::ReadOne;
+use player::Player;
+use printed::say;
+use reading::Reading;
+ghost use Rattle.sheet.specs.Checked.{Checked};
+ghost use Rattle.book.specs.Checked.{CheckedBook};
+
+// A material's channels: the first texture slot, and how many there are.
+const FIRST_TEXTURE: u16 = 15;
+
+const MATERIAL_CHANNELS: u16 = 30;
+
+// The channel of a texture slot; a slot that there isn't has a channel that there isn't.
+fn slot_channel(slot: u16) -> u16 {
+    if slot < 3 {
+        return FIRST_TEXTURE + slot;
+    }
+    MATERIAL_CHANNELS
+}
+
+fn slot_of(channel: u16) -> u16 {
+    if channel < FIRST_TEXTURE {
+        return 0;
+    }
+    channel - FIRST_TEXTURE
+}
+
+fn say_shown(shown: bool) {
+    if shown {
+        say(b"shown");
+    } else {
+        say(b"hidden");
+    }
+}
+
+// What one channel reads.
+fn say_reading<'a>(
+    p: Player,
+    c: Call,
+    r: Reading,
+    s: &'a [u8],
+    b: &'a [u8],
+    frames: &[f32],
+    values: &[f32],
+    slopes: &[f32],
+) {
+    match r {
+        Reading::Nothing => say(b"none"),
+        Reading::Number(x) => printed::say_number(x),
+        Reading::Shown(v) => say_shown(v),
+        Reading::Row(row) => {
+            let slot = slot_of(c.second);
+            facts::say_row(p, s, b, frames, values, slopes, c.first, slot, row)
+        }
+        Reading::Level(n) => {
+            say(b"level ");
+            printed::say_count(n as u64)
+        }
+    }
+    say(b"\n");
+}
+
+fn say_one<'a>(
+    p: Player,
+    c: Call,
+    one: ReadOne,
+    s: &'a [u8],
+    b: &'a [u8],
+    frames: &[f32],
+    values: &[f32],
+    slopes: &[f32],
+) {
+    if one.refusal != 0 {
+        refused(one.refusal);
+        return;
+    }
+    let r = one.reading;
+    say_reading(p, c, r, s, b, frames, values, slopes);
+}
+
+// The name of a material's texture slot; its refusal is that of reading the slot.
+fn say_texture<'a>(
+    p: Player,
+    c: Call,
+    s: &'a [u8],
+    b: &'a [u8],
+    frames: &[f32],
+    values: &[f32],
+    slopes: &[f32],
+) {
+    let one = menu::read_material(
+        p,
+        s,
+        b,
+        frames,
+        values,
+        slopes,
+        c.first,
+        slot_channel(c.second),
+    );
+    if one.refusal != 0 {
+        refused(one.refusal);
+        return;
+    }
+    say(b"name ");
+    printed::say_name(menu::texture_name(p, s, b, frames, values, slopes, c.first, c.second));
+    say(b"\n");
+}
+
+// The name of the animation that follows one.
+fn say_next(s: &[u8], animation: u16) {
+    let name = menu::next_name(s, animation);
+    if name.len() == 0 {
+        say(b"none\n");
+        return;
+    }
+    if name[0] == 0 {
+        say(b"none\n");
+        return;
+    }
+    say(b"next ");
+    printed::say_name(name);
+    say(b"\n");
+}
+
+pub fn show<'a>(
+    p: Player,
+    c: Call,
+    s: &'a [u8],
+    b: &'a [u8],
+    frames: &[f32],
+    values: &[f32],
+    slopes: &[f32],
+)
+    requires { ⌜ Checked (now s) × CheckedBook (now b) ⌝ }
+{
+    let verb = c.verb;
+    match verb {
+        READ_PANE => {
+            let one = menu::read_pane(p, s, b, frames, values, slopes, c.first, c.second);
+            say_one(p, c, one, s, b, frames, values, slopes)
+        }
+        READ_MATERIAL => {
+            let one = menu::read_material(p, s, b, frames, values, slopes, c.first, c.second);
+            say_one(p, c, one, s, b, frames, values, slopes)
+        }
+        READ_ALL => {
+            say(b"channels:\n");
+            facts::say_readings(Lead::Nothing, p, s, b, frames, values, slopes)
+        }
+        RESOLVE_PANE => say_pane(menu::resolve_pane(p, s, b, frames, values, slopes, c.first)),
+        RESOLVE_SRT => say_srt(menu::resolve_srt(
+            p,
+            s,
+            b,
+            frames,
+            values,
+            slopes,
+            c.first,
+            c.second,
+        )),
+        NAME => say_texture(p, c, s, b, frames, values, slopes),
+        NEXT => say_next(s, c.first),
+        CASCADE => {
+            say(b"cascade:\n");
+            facts::say_cascade(Lead::Nothing, p, s, b, frames, values, slopes)
+        }
+        KEYS => say_keys(s, frames, values, slopes),
+        PLAYER => say_player(p),
+        _ => (),
+    }
+}

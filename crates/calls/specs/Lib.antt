@@ -1,0 +1,2 @@
+-- What a verb asks for.
+pub mod Few

@@ -1,0 +1,10 @@
+// What a player shows, one line a fact: the overridden channels and the cascade over the panes.
+mod cascade;
+mod lead;
+mod readings;
+mod row;
+
+pub use cascade::say_cascade;
+pub use lead::Lead;
+pub use readings::say_readings;
+pub use row::say_row;

@@ -1,0 +1,2 @@
+-- What is known of an input between two bytes.
+pub mod Held
