@@ -1,21 +1,25 @@
 // First mistakes, and files of every kind, on the command line: each case with a heading, and what it is answered.
 use printed::say;
 
-// More words than any case has.
-const MOST: usize = 10;
-
-fn heading(line: &[u8]) {
-    say(b"== menu_cli");
-    let mut i = 0;
-    while i < MOST {
-        let word = words::line(line, i);
-        if word.len() == 0 {
-            break;
-        }
+fn say_word(line: &[u8], i: usize) {
+    let word = words::line(line, i);
+    if word.len() > 0 {
         say(b" ");
         say(word);
-        i += 1;
     }
+}
+
+// The command line of a case, which has eight words at most.
+fn heading(line: &[u8]) {
+    say(b"== menu_cli");
+    say_word(line, 0);
+    say_word(line, 1);
+    say_word(line, 2);
+    say_word(line, 3);
+    say_word(line, 4);
+    say_word(line, 5);
+    say_word(line, 6);
+    say_word(line, 7);
     say(b"\n");
 }
 
