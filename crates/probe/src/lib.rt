@@ -2,7 +2,6 @@
 // An export requires nothing: it tests what the function inside requires, and answers 0 where a test fails.
 mod formats;
 mod readings;
-mod shapes;
 
 ghost use mathlib.Core.Path.{_≡_};
 ghost use Rattle.float.specs.Rising.{rising};

@@ -159,9 +159,7 @@ pub fn undo(menu: &mut Menu) -> Spread {
 pub fn load(menu: &Menu) -> Spread {
     let mut keys = menu.keys.clone();
     alone(&mut || {
-        drop(black_box(
-            Player::load_into(&menu.sheet, &mut keys).expect("a load"),
-        ))
+        black_box(Player::load_into(&menu.sheet, &mut keys).expect("a load"));
     })
 }
 

@@ -5,4 +5,5 @@ pub mod arguments;
 pub mod lists;
 pub mod ours;
 pub mod probe;
+pub mod shapes;
 pub mod tally;

@@ -5,7 +5,7 @@
 use cases::geometry::{corners, moves, uvs};
 use cases::random::Random;
 use compare::arguments::Arguments;
-use compare::probe::shapes;
+use compare::shapes;
 use compare::tally::Tally;
 
 /// What stands in an output before the call: a refused call leaves it.

@@ -4,4 +4,3 @@
 pub mod curves;
 pub mod formats;
 pub mod readings;
-pub mod shapes;
