@@ -11,7 +11,7 @@ use Rattle.player.specs.declared.Player.{Player}
 use Rattle.player.specs.Player.{none, playerOk}
 use Rattle.player.specs.Sound.{Sound, sound, selected-below}
 use Rattle.player.specs.Ticked.{Selected}
-use Rattle.menu.specs.Calls.{checkPlayer, tickMoves, lengthsOk, checkKeys}
+use Rattle.menu.specs.Calls.{checkPlayer, tickMoves, lengthsOk, checkKeys, lengthsAre}
 use Rattle.player.specs.Keys.{Keys}
 use Rattle.player.specs.Undo.{keysOkOf}
 use Rattle.sheet.specs.Sizes.{keyCount}
@@ -75,7 +75,17 @@ pub moves-is : (s : List ℕ) (p : Player) (dt fps : Float) {sum frame : Float} 
 unfolding tickMoves
 moves-is s p dt fps t q a f b = rw (t, ← q, ← f, a, b)
 
+-- an idle tick has none of them
+pub idle-moves : (s : List ℕ) (p : Player) (dt fps : Float) → ticks (viewOf p) ≡ false → tickMoves s (viewOf p) dt fps ≡ true
+unfolding tickMoves
+idle-moves s p dt fps t = rw t
+
 -- ---- calls that also take keys
+-- the arrays' lengths, by the number of keys that the sheet has
+pub lengths-at : (s : List ℕ) (ks : Keys) {k : ℕ} {r : Bool} → k ≡ keyCount s → r ≡ lengthsAre k ks → r ≡ lengthsOk s ks
+unfolding lengthsOk
+lengths-at s ks e h = rw (← e) h
+
 pub record KeysReady (s : List ℕ) (p : Player) (ks : Keys) : Type 0 where
   pub sheet : Checked s
   pub frames : length (ks .frames) ≡ keyCount s

@@ -25,9 +25,13 @@ use Rattle.player.specs.Undo.{keysOkOf, undoRefusal, redoRefusal, undoEntry, re
 use Rattle.menu.specs.declared.playing.Played.{Played}
 use Rattle.menu.specs.declared.playing.Ticked.{Ticked}
 
+-- each key array is n long
+abbrev pub lengthsAre : ℕ → Keys → Bool
+lengthsAre n ks = eqb (length (ks .frames)) n && eqb (length (ks .values)) n && eqb (length (ks .slopes)) n
+
 -- row 3: each key array is K long
 unfoldable pub lengthsOk : List ℕ → Keys → Bool
-lengthsOk s ks = eqb (length (ks .frames)) (keyCount s) && eqb (length (ks .values)) (keyCount s) && eqb (length (ks .slopes)) (keyCount s)
+lengthsOk s ks = lengthsAre (keyCount s) ks
 
 -- a call that takes sheet and player
 unfoldable pub checkPlayer : List ℕ → Player → ℕ → ℕ

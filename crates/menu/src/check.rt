@@ -7,10 +7,8 @@ use laws::refusal::KEY_RULES;
 use laws::refusal::SHEET_LAYOUT;
 use player::Player;
 ghost use mathlib.Core.Path.{_≡_};
-ghost use Prim.Native.Nat.{_≤_};
-ghost use lib.ListN.{length};
 ghost use Rattle.player.specs.Keys.{keys};
-ghost use Rattle.menu.specs.Calls.{checkPlayer, lengthsOk, checkKeys};
+ghost use Rattle.menu.specs.Calls.{checkPlayer, lengthsAre, checkKeys};
 ghost use Rattle.menu.specs.Readings.{checkBook};
 
 // Rows 1 and 5, and 0 where neither declines.
@@ -26,12 +24,10 @@ pub fn check_player(p: Player, s: &[u8]) -> u8
     ACCEPTED
 }
 
-// Row 3: each key array is K long.
-fn lengths_ok(s: &[u8], frames: &[f32], values: &[f32], slopes: &[f32]) -> bool
-    requires { ⌜ 12 ≤ length (now s) ⌝ }
-    ensures { λ r. ⌜ r ≡ lengthsOk (now (s .entry)) (keys (now (frames .entry)) (now (values .entry)) (now (slopes .entry))) ⌝ }
+// Row 3: each key array is n long.
+fn lengths_ok(n: usize, frames: &[f32], values: &[f32], slopes: &[f32]) -> bool
+    ensures { λ r. ⌜ r ≡ lengthsAre n (keys (now (frames .entry)) (now (values .entry)) (now (slopes .entry))) ⌝ }
 {
-    let n = sheet::key_count(s);
     (frames.len() == n) & (values.len() == n) & (slopes.len() == n)
 }
 
@@ -42,7 +38,7 @@ pub fn check_keys(p: Player, s: &[u8], frames: &[f32], values: &[f32], slopes: &
     if !sheet::sheet_ok(s) {
         return SHEET_LAYOUT;
     }
-    if !lengths_ok(s, frames, values, slopes) {
+    if !lengths_ok(sheet::key_count(s), frames, values, slopes) {
         return KEY_ARRAY_LENGTH;
     }
     if !keys::keys_ok(s, frames, values, slopes) {
@@ -71,7 +67,7 @@ pub fn check_book(
     if !book::book_ok(b) {
         return BOOK_LAYOUT;
     }
-    if !lengths_ok(s, frames, values, slopes) {
+    if !lengths_ok(sheet::key_count(s), frames, values, slopes) {
         return KEY_ARRAY_LENGTH;
     }
     if !keys::keys_ok(s, frames, values, slopes) {

@@ -8,10 +8,8 @@ use player::Player;
 use player::Tick;
 use player::playing::tick_frame;
 ghost use mathlib.Core.Path.{_≡_};
-ghost use Rattle.sheet.specs.Checked.{Checked};
 ghost use Rattle.player.specs.View.{viewOf};
-ghost use Rattle.player.specs.Ticked.{Selected};
-ghost use Rattle.menu.specs.Calls.{checkPlayer, playRest, poseRest, tickRest, tickMoves, playOf, poseOf, tickOf};
+ghost use Rattle.menu.specs.Calls.{checkPlayer, playRest, poseRest, tickRest, playOf, poseOf, tickOf};
 
 pub struct Played {
     pub refusal: u8,
@@ -84,18 +82,7 @@ pub fn pose(p: Player, s: &[u8], animation: u16, frame: f32) -> Played
     }
 }
 
-// Whether the numbers of a playing tick are finite: the sum, and the frame that it would leave.
-fn tick_moves(p: Player, s: &[u8], dt: f32, fps: f32) -> bool
-    requires { ⌜ Selected (now s) p ⌝ }
-    ensures { λ r. ⌜ r ≡ tickMoves (now (s .entry)) (viewOf p) dt fps ⌝ }
-{
-    if !p.ticks() {
-        return true;
-    }
-    let sum = p.tick_sum(dt, fps);
-    float::is_finite(sum) & float::is_finite(tick_frame(s, p.selection as usize, sum))
-}
-
+// The numbers of a playing tick are the sum, and the frame that it would leave; an idle tick has neither.
 fn tick_refusal(p: Player, s: &[u8], dt: f32, fps: f32) -> u8
     ensures { λ r. ⌜ r ≡ checkPlayer (now (s .entry)) p (tickRest (now (s .entry)) (viewOf p) dt fps) ⌝ }
 {
@@ -106,7 +93,11 @@ fn tick_refusal(p: Player, s: &[u8], dt: f32, fps: f32) -> u8
     if !(float::is_finite(dt) & float::is_finite(fps)) {
         return BAD_ARGUMENT;
     }
-    if tick_moves(p, s, dt, fps) {
+    if !p.ticks() {
+        return ACCEPTED;
+    }
+    let sum = p.tick_sum(dt, fps);
+    if float::is_finite(sum) & float::is_finite(tick_frame(s, p.selection as usize, sum)) {
         return ACCEPTED;
     }
     BAD_ARGUMENT
