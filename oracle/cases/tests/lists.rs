@@ -1,20 +1,33 @@
 //! The plain machine beside the player with its journal, over many lists, and
 //! what the lists reach. `Walk` itself holds the two against each other.
 
+use cases::calls::ends::{self, NextNames};
 use cases::calls::walk::{Step, Walk};
+use cases::calls::{Call, NONE, Tick, Told, views};
+use cases::random::Random;
+use cases::sheets::damage;
 
 #[test]
 fn lists_reach_every_refusal_and_long_journals() {
     let mut refusals = [0u64; 14];
     let (mut calls, mut spoils, mut long, mut plain) = (0u64, 0u64, 0u64, 0u64);
+    let mut next_names = NextNames::default();
+    let mut slots = [0u64; 3];
     for seed in 0..4000 {
         let mut walk = Walk::of_seed(seed);
         let mut most = 0;
         while let Some(step) = walk.step() {
             match step {
-                Step::Called(_, answer) => {
+                Step::Called(call, answer) => {
                     refusals[usize::from(answer.refusal)] += 1;
                     calls += 1;
+                    if let Told::Tick(tick) = &answer.told {
+                        next_names.add(tick);
+                    }
+                    if let Call::TextureName { slot, .. } = call {
+                        let outside = [3, 4, NONE].iter().position(|&n| n == slot);
+                        outside.into_iter().for_each(|i| slots[i] += 1);
+                    }
                 }
                 Step::Spoiled(_) => spoils += 1,
             }
@@ -28,4 +41,65 @@ fn lists_reach_every_refusal_and_long_journals() {
     assert!(can_occur.iter().all(|&n| refusals[n] > 50), "{refusals:?}");
     assert!(refusals[0] > calls / 2, "{refusals:?}");
     assert!(long > 50, "{long}");
+    println!("{next_names:?}, slots {slots:?}");
+    assert!(next_names.of_length.iter().all(|&n| n > 10));
+    assert!(next_names.wide > 50);
+    assert!(slots.iter().all(|&n| n > 10), "{slots:?}");
+}
+
+/// Eight names of each length, each with four frame counts.
+#[test]
+fn animations_end_with_names_of_every_length() {
+    let (_, book) = damage::base_pair();
+    let mut next_names = NextNames::default();
+    for (sheet, list) in ends::each() {
+        let mut walk = Walk::new(Random::new(0), &sheet, &book, 0);
+        for call in list {
+            if let Step::Called(_, answer) = walk.call(call)
+                && let Told::Tick(tick) = answer.told
+            {
+                next_names.add(&tick);
+            }
+        }
+    }
+    println!("{next_names:?}");
+    // A looping animation of no frames ends too.
+    assert_eq!(next_names.of_length, [8 * 5; 25]);
+    assert!(next_names.wide > 200);
+}
+
+/// Ticks of every kind; an idle one moves nothing, and none but it is idle.
+#[test]
+fn ticks_in_every_view() {
+    let mut ticks = [0u64; 4];
+    for (sheet, book) in views::pairs() {
+        let mut walk = Walk::new(Random::new(0), &sheet, &book, 0);
+        for view in views::views(&sheet) {
+            for call in views::calls(&sheet) {
+                for spoil in views::spoils(&view) {
+                    walk.spoil(&spoil);
+                }
+                let before = walk.held.player.clone();
+                let Step::Called(Call::Tick { dt, fps }, answer) = walk.call(call) else {
+                    continue;
+                };
+                if answer.refusal != 0 {
+                    assert_eq!(walk.held.player, before);
+                    continue;
+                }
+                assert!(dt.is_finite() && fps.is_finite());
+                let Told::Tick(tick) = answer.told else {
+                    panic!("{call:?} is a tick");
+                };
+                ticks[usize::from(tick.number())] += 1;
+                let idle = view.selection == NONE || !view.playing;
+                assert_eq!(tick == Tick::Idle, idle, "{view:?} {call:?}");
+                if idle {
+                    assert_eq!(walk.held.player, before);
+                }
+            }
+        }
+    }
+    println!("{ticks:?}");
+    assert!(ticks.iter().all(|&n| n > 1000), "{ticks:?}");
 }

@@ -75,7 +75,10 @@ fn edit(key: u16, frame: f32) -> Call {
 
 #[test]
 fn ticks() {
-    for (looping, expected, left) in [(true, Tick::Running, 2.0), (false, Tick::Next, 60.0)] {
+    for (looping, expected, left) in [
+        (true, Tick::Running, 2.0),
+        (false, Tick::Next(name("next")), 60.0),
+    ] {
         let mut walk = walk(&sheet(looping, &[]));
         assert_eq!(tick(&mut walk, 1.0, 1.0), (Told::Tick(Tick::Idle), 0.0));
         answer(&mut walk, Call::Play(0));

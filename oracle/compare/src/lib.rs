@@ -7,3 +7,4 @@ pub mod ours;
 pub mod probe;
 pub mod shapes;
 pub mod tally;
+pub mod views;

@@ -1,12 +1,16 @@
 //! Runs of lists, and what they came to: how many calls of each kind, how many
-//! of each refusal, how many lists with more edits than a journal holds.
+//! of each refusal, how many next names, how many lists with more edits than a
+//! journal holds.
 
 use crate::ours::Ours;
+use cases::calls::ends::{self, NextNames};
 use cases::calls::held::Held;
 use cases::calls::player::ROWS;
 use cases::calls::short;
 use cases::calls::walk::{Step, Walk};
-use cases::calls::{Answer, Call};
+use cases::calls::{Answer, Call, NONE, Told};
+use cases::format::book::Book;
+use cases::format::sheet::Sheet;
 use cases::random::Random;
 use cases::sheets::damage;
 
@@ -38,6 +42,8 @@ pub struct Counts {
     spoils: u64,
     /// By kind and refusal.
     of_kind: [[u64; REFUSALS]; KINDS.len()],
+    /// Next names that were the ones that the Rust's ticks returned.
+    next_names: NextNames,
     /// Lists that passed 128 edits, and those whose plain machine was beside
     /// to the end.
     long: u64,
@@ -76,21 +82,33 @@ impl Counts {
     /// Every short list, and the first difference.
     pub fn each_short_list(&mut self) -> Option<String> {
         let (sheet, book) = damage::base_pair();
-        for number in 0..short::COUNT {
-            let mut walk = Walk::new(Random::new(0), &sheet, &book, 0);
-            let mut ours = Ours::load(&walk.held.sheet_bytes);
-            for call in short::list(number) {
-                let step = walk.call(call);
-                let difference = self.step(&step, &walk, &mut ours);
-                if let Some(what) = difference {
-                    return Some(format!("{:?}: {what}", short::list(number)));
-                }
-            }
-        }
-        None
+        (0..short::COUNT).find_map(|number| {
+            let list = short::list(number);
+            let what = self.list(&sheet, &book, &list)?;
+            Some(format!("{list:?}: {what}"))
+        })
     }
 
-    fn step(&mut self, step: &Step, walk: &Walk, ours: &mut Ours) -> Option<String> {
+    /// Animations that end, with a next name of every length.
+    pub fn each_end(&mut self) -> Option<String> {
+        let (_, book) = damage::base_pair();
+        ends::each().find_map(|(sheet, list)| {
+            let what = self.list(&sheet, &book, &list)?;
+            Some(format!("{:?}: {what}", sheet.animations))
+        })
+    }
+
+    /// One list from a freshly loaded player.
+    fn list(&mut self, sheet: &Sheet, book: &Book, list: &[Call]) -> Option<String> {
+        let mut walk = Walk::new(Random::new(0), sheet, book, 0);
+        let mut ours = Ours::load(&walk.held.sheet_bytes);
+        list.iter().find_map(|&call| {
+            let step = walk.call(call);
+            self.step(&step, &walk, &mut ours)
+        })
+    }
+
+    pub fn step(&mut self, step: &Step, walk: &Walk, ours: &mut Ours) -> Option<String> {
         match step {
             Step::Spoiled(spoil) => {
                 self.spoils += 1;
@@ -119,6 +137,12 @@ impl Counts {
         if given != *plain {
             return Some(format!("{call:?}\n  plain {plain:?}\n  here  {given:?}"));
         }
+        if let Told::Tick(tick) = &plain.told {
+            self.next_names.add(tick);
+        }
+        if slot(call).is_some_and(|slot| ours.step(&slot, held).refusal != given.refusal) {
+            return Some(format!("{call:?} has not the number of reading the slot"));
+        }
         let same = ours.is(held);
         (!same).then(|| format!("player or keys after {call:?}"))
     }
@@ -144,16 +168,37 @@ impl Counts {
         let sums: [u64; REFUSALS] =
             std::array::from_fn(|n| self.of_kind.iter().map(|counts| counts[n]).sum());
         println!("all: {}", told(&sums));
+        let NextNames { of_length, wide } = &self.next_names;
+        println!(
+            "next names: {}, the Rust's own, by length {{{}}}, {wide} of them not ASCII",
+            self.next_names.all(),
+            occurred(of_length, 0)
+        );
     }
 }
 
-/// The counts of each refusal that occurred.
+/// Document 01: a texture name's number "comes from reading the slot". A slot
+/// from 3 up is no channel.
+fn slot(call: &Call) -> Option<Call> {
+    const FIRST: u16 = 15;
+    match *call {
+        Call::TextureName { material, slot } => Some(Call::ReadMaterial {
+            material,
+            channel: if slot < 3 { FIRST + slot } else { NONE },
+        }),
+        _ => None,
+    }
+}
+
+/// How many calls were accepted, and how many of each refusal there were.
 fn told(counts: &[u64; REFUSALS]) -> String {
-    let refused = (1..REFUSALS).filter(|&n| counts[n] > 0);
-    let refused: Vec<String> = refused.map(|n| format!("{n}: {}", counts[n])).collect();
-    format!(
-        "{} accepted, refused by {{{}}}",
-        counts[0],
-        refused.join(", ")
-    )
+    let refused = occurred(counts, 1);
+    format!("{} accepted, refused by {{{refused}}}", counts[0])
+}
+
+/// The numbers from `first` on that occurred, each with its count.
+fn occurred(counts: &[u64], first: usize) -> String {
+    let met = (first..counts.len()).filter(|&n| counts[n] > 0);
+    let met: Vec<String> = met.map(|n| format!("{n}: {}", counts[n])).collect();
+    met.join(", ")
 }

@@ -15,6 +15,9 @@ use std::path::Path;
 const HEAD: usize = 8;
 const CALLS: u8 = 6;
 
+/// A stored tick has its number alone, without the name.
+const NEXT: Tick = Tick::Next([0; 24]);
+
 /// How many cases a stored file has, and how many of them differ.
 fn replayed(file: &str) -> (u32, u32) {
     let folder = Path::new(env!("CARGO_MANIFEST_DIR")).join("../../crates/vectors/data");
@@ -153,7 +156,7 @@ impl<'a> List<'a> {
                 Told::Done
             }
             Call::Tick { .. } => {
-                let ticks = [Tick::Idle, Tick::Running, Tick::Ended, Tick::Next];
+                let ticks = [Tick::Idle, Tick::Running, Tick::Ended, NEXT];
                 Told::Tick(ticks[usize::from(self.u8())])
             }
             Call::ReadPane { .. } | Call::ReadMaterial { .. } => Told::One(self.one()),
@@ -239,7 +242,10 @@ impl Replay {
         if code < 15 {
             let call = list.call(code);
             let told = list.told(&call, refusal, &self.held);
-            let given = self.ours.step(&call, &self.held);
+            let mut given = self.ours.step(&call, &self.held);
+            if let Told::Tick(tick @ Tick::Next(_)) = &mut given.told {
+                *tick = NEXT;
+            }
             same = given == Answer { refusal, told };
         } else {
             let spoil = list.spoil(code);

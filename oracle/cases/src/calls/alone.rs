@@ -56,6 +56,10 @@ fn edit(n: usize) -> Call {
     }
 }
 
+fn texture_name(material: u16, slot: u16) -> Call {
+    Call::TextureName { material, slot }
+}
+
 /// Calls of every kind, accepted and declined.
 pub fn calls() -> Vec<Call> {
     let key_edit = |key, frame| Call::Edit {
@@ -112,10 +116,10 @@ pub fn calls() -> Vec<Call> {
             material: 0,
             layer: 1,
         },
-        Call::TextureName {
-            material: 1,
-            slot: 2,
-        },
+        texture_name(1, 2),
+        texture_name(1, 3),
+        texture_name(0, 4),
+        texture_name(0, NONE),
         Call::Cascade { short: 0 },
         Call::Cascade { short: 1 },
         Call::Cascade { short: 2 },

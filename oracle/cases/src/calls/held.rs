@@ -102,7 +102,7 @@ impl Held {
         if self.sheet_damaged {
             return refused(&self.book, call, 0);
         }
-        let told = readings::next_name(&self.sheet, animation);
+        let told = readings::next_name(&self.reference, animation);
         Answer { refusal: 0, told }
     }
 

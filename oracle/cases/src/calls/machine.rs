@@ -93,7 +93,7 @@ impl Machine {
             }
             Call::NextName(animation) => Answer {
                 refusal: 0,
-                told: readings::next_name(&self.sheet, animation),
+                told: readings::next_name(&self.reference, animation),
             },
             _ => readings::answer(&self.sheet, book, &self.reference, view, call),
         }

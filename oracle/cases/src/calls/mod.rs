@@ -4,6 +4,7 @@
 //! written from document 01 and decline by its table (`table`).
 
 pub mod alone;
+pub mod ends;
 pub mod held;
 pub mod machine;
 pub mod player;
@@ -14,7 +15,10 @@ pub mod short;
 pub mod some;
 pub mod spoil;
 pub mod table;
+pub mod views;
 pub mod walk;
+
+use crate::format::Name;
 
 /// The number that selects nothing.
 pub const NONE: u16 = 65_535;
@@ -119,8 +123,21 @@ pub enum Tick {
     Idle,
     Running,
     Ended,
-    /// Ended with a next name.
-    Next,
+    /// Ended with a next name: the text that the published tick returned, as the
+    /// field of 24 bytes.
+    Next(Name),
+}
+
+impl Tick {
+    /// The number of its kind, which a stored list has.
+    pub fn number(&self) -> u8 {
+        match self {
+            Tick::Idle => 0,
+            Tick::Running => 1,
+            Tick::Ended => 2,
+            Tick::Next(_) => 3,
+        }
+    }
 }
 
 /// A single reading.

@@ -196,9 +196,8 @@ pub fn refused(book: &LentBook, call: &Call, refusal: u8) -> Answer {
     Answer { refusal, told }
 }
 
-/// The 24-byte field of the name that follows an animation, all zero where it
-/// has none; empty from A up.
-pub fn next_name(sheet: &Sheet, animation: u16) -> Told {
-    let row = sheet.animations.get(usize::from(animation));
-    Told::Name(row.map_or(Vec::new(), |row| row.next.to_vec()))
+/// The 24-byte field of the name that follows an animation; empty from A up.
+pub fn next_name(reference: &Reference, animation: u16) -> Told {
+    let field = reference.next_name(animation);
+    Told::Name(field.map_or(Vec::new(), |field| field.to_vec()))
 }

@@ -5,7 +5,7 @@ use super::{NONE, Request, Tick, View};
 use crate::curves::Keys;
 use crate::format::load::Arrays;
 use crate::format::sheet::{Sheet, Target};
-use crate::format::text_of;
+use crate::format::{Name, name, text_of};
 use crate::readings::published_form as form;
 use published::anim_state::{AnimPlayer, AnimationState};
 use published::bflan::curves::Curve;
@@ -133,19 +133,26 @@ impl Reference {
         })
     }
 
-    /// Document 01: idle is "nothing selected or not playing; nothing moves".
+    /// Document 01: idle is "nothing selected or not playing". The name is the one
+    /// that the text's tick returned.
     pub fn tick(&mut self, view: View, dt: f32, fps: f32) -> (View, Tick) {
         self.show(view);
-        if !self.player.is_playing() {
-            return (view, Tick::Idle);
-        }
+        let played = self.player.is_playing();
         let next = self.player.tick(dt, fps);
         let answer = match next {
-            Some(_) => Tick::Next,
+            Some(text) => Tick::Next(name(&text)),
             None if self.player.is_playing() => Tick::Running,
-            None => Tick::Ended,
+            None if played => Tick::Ended,
+            None => Tick::Idle,
         };
         (self.shown(view), answer)
+    }
+
+    /// The name that the text would play after an animation, as the field of 24
+    /// bytes: all zero where there is none. Nothing from A up.
+    pub fn next_name(&self, animation: u16) -> Option<Name> {
+        let instance = self.player.anims.get(usize::from(animation))?;
+        Some(name(instance.next_anim.as_deref().unwrap_or_default()))
     }
 
     pub fn evaluate(&self, view: View, labels: &HashMap<String, PaneId>) -> AnimationState {

@@ -9,11 +9,12 @@ pub mod load;
 pub mod sheet;
 
 /// A name is 24 bytes; zero bytes at its end don't count.
-pub type Name = [u8; 24];
+pub type Name = [u8; NAME];
+pub const NAME: usize = 24;
 
 /// A name of at most 24 bytes.
 pub fn name(text: &str) -> Name {
-    let mut name = [0; 24];
+    let mut name = [0; NAME];
     name[..text.len()].copy_from_slice(text.as_bytes());
     name
 }

@@ -13,6 +13,23 @@ pub fn distinct(random: &mut Random, count: usize) -> Vec<Name> {
     names
 }
 
+/// A name of so many bytes: letters, zero bytes inside, and characters of two to
+/// four bytes.
+pub fn of_length(random: &mut Random, length: usize) -> Name {
+    const CHARACTERS: [char; 9] = ['n', 'Z', '_', '\0', 'é', 'Я', '次', 'ﾂ', '🕊'];
+    let kinds = random.pick(&[3, 4, CHARACTERS.len()]);
+    let mut text = String::new();
+    while text.len() < length {
+        let character = random.pick(&CHARACTERS[..kinds]);
+        let end = text.len() + character.len_utf8();
+        // A zero byte at the end wouldn't count.
+        if end < length || end == length && character != '\0' {
+            text.push(character);
+        }
+    }
+    name(&text)
+}
+
 /// The i-th name of a style, for i below 120. Two with another style or another
 /// i differ.
 fn one(style: usize, i: usize) -> Name {

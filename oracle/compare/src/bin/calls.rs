@@ -1,9 +1,12 @@
 //! `calls COUNT SEED`: lists of calls on the plain machine, whose calls mean what
 //! the published text says, beside the proved player: every answer and output,
-//! all keys and the whole player after each. First every short list over a few
-//! calls; then every field, journal row and key spoiled alone; then random
-//! lists, until COUNT of their calls were compared. `calls 0 SEED` runs the one
-//! random list of that seed, and tells its steps.
+//! all keys and the whole player after each. A tick that ends with a next name
+//! must be one of the Rust's that returned that name. First every short list over
+//! a few calls; then animations that end, with a next name of every length; then
+//! plays, poses and ticks in every kind of view; then every field, journal row
+//! and key spoiled alone; then random lists, until COUNT of their calls were
+//! compared. `calls 0 SEED` runs the one random list of that seed, and tells its
+//! steps.
 
 use cases::calls::short;
 use cases::random::Random;
@@ -20,6 +23,14 @@ fn main() {
     }
     let found = counts.each_short_list();
     report(&counts, &format!("{} short lists", short::COUNT), found);
+
+    let mut counts = Counts::default();
+    let found = counts.each_end();
+    report(&counts, "animations that end", found);
+
+    let mut counts = Counts::default();
+    let found = counts.each_view();
+    report(&counts, "each view", found);
 
     let mut counts = Counts::default();
     let found = counts.each_spoil_alone();

@@ -169,6 +169,8 @@ fn calls(random: &mut Random, held: &Held, case: &Case) -> Vec<Call> {
         let slot = layer;
         calls.push(Call::TextureName { material, slot });
     }
+    // A material has three slots; with none, row 0 is no material either.
+    calls.extend([3, 4, 65_535].map(|slot| Call::TextureName { material: 0, slot }));
     let marks = held.marks().expect("nothing is refused");
     let marked = (0..marks.len()).filter(|&channel| marks[channel] == 1);
     calls.extend(marked.map(|channel| single(panes, channel)));

@@ -90,7 +90,10 @@ impl Ours {
         match *call {
             Call::Play(animation) => done(player.play(s, number(animation))),
             Call::Pose(animation, frame) => done(player.pose(s, number(animation), frame)),
-            Call::Tick { dt, fps } => ticked(player.tick(s, dt, fps)),
+            Call::Tick { dt, fps } => {
+                let ours = player.tick(s, dt, fps);
+                ticked(ours, s, player)
+            }
             Call::Edit {
                 track,
                 key,
@@ -186,11 +189,17 @@ fn done(ours: Result<(), Refusal>) -> Answer {
     }
 }
 
-fn ticked(ours: Result<dovebolt::Tick, Refusal>) -> Answer {
+/// A next name is read as a caller does: of the animation that the tick left
+/// selected.
+fn ticked(ours: Result<dovebolt::Tick, Refusal>, s: &[u8], player: &dovebolt::Player) -> Answer {
     let tick = match ours {
         Ok(dovebolt::Tick::Running) => Tick::Running,
         Ok(dovebolt::Tick::Ended) => Tick::Ended,
-        Ok(dovebolt::Tick::Next) => Tick::Next,
+        Ok(dovebolt::Tick::Next) => {
+            let mut out = [FILL_BYTE; 24];
+            let read = dovebolt::next_name_into(s, player.as_raw().selection, &mut out);
+            Tick::Next(read.map_or([FILL_BYTE; 24], |()| out))
+        }
         Ok(dovebolt::Tick::Idle) | Err(_) => Tick::Idle,
     };
     Answer {

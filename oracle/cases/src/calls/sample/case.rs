@@ -40,7 +40,7 @@ use crate::bits::bits_of;
 use crate::calls::held::Held;
 use crate::calls::spoil::Spoil;
 use crate::calls::walk::Step;
-use crate::calls::{Answer, Call, One, Request, Tick, Told};
+use crate::calls::{Answer, Call, One, Request, Told};
 
 /// A call's bytes: code and refusal, arguments and answer, the state.
 pub struct Case {
@@ -152,12 +152,7 @@ impl Bytes {
     fn answer(&mut self, answer: &Answer) {
         match &answer.told {
             Told::Done => {}
-            Told::Tick(tick) => self.u8(match tick {
-                Tick::Idle => 0,
-                Tick::Running => 1,
-                Tick::Ended => 2,
-                Tick::Next => 3,
-            }),
+            Told::Tick(tick) => self.u8(tick.number()),
             Told::One(one) => self.one(*one),
             Told::Pane {
                 visible,

@@ -5,11 +5,12 @@ mod reads;
 
 use super::held::Held;
 use super::{Call, NONE};
+use crate::format::NAME;
 use crate::format::book::Book;
 use crate::format::sheet::{Sheet, Target};
 use crate::random::Random;
 use crate::readings::some::{frame as some_frame, vary, vary_textures};
-use crate::sheets::{books, good};
+use crate::sheets::{books, good, names};
 use edits::edit;
 use reads::reading;
 
@@ -42,8 +43,20 @@ pub fn mode(random: &mut Random, held: &Held) -> (Mode, usize) {
     }
 }
 
-/// A sheet, most often with tracks to edit, and a book that it moves.
+/// A sheet, most often with tracks to edit, and a book that it moves. Its next
+/// names have any length.
 pub fn pair(random: &mut Random) -> (Sheet, Book) {
+    let (mut sheet, book) = any_pair(random);
+    for animation in &mut sheet.animations {
+        if animation.next_present == 1 {
+            let length = random.below(NAME + 1);
+            animation.next = names::of_length(random, length);
+        }
+    }
+    (sheet, book)
+}
+
+fn any_pair(random: &mut Random) -> (Sheet, Book) {
     if random.once_in(256) {
         let book = books::book(random, books::FULL);
         let sheet = good::sheet(random, good::FULL, &book);
