@@ -158,7 +158,8 @@ menu_played menu_play(menu_player player, const uint8_t *sheet, size_t sheet_len
  * Refusals 1, 5, 8. */
 menu_played menu_pose(menu_player player, const uint8_t *sheet, size_t sheet_len, uint16_t animation, float frame);
 
-/* Lets dt seconds pass at fps frames a second. Refusals 1, 5, 8. */
+/* Lets dt seconds pass at fps frames a second. After MENU_NEXT, menu_next_name of the player's selection has the name.
+ * Refusals 1, 5, 8. */
 menu_ticked menu_tick(menu_player player, const uint8_t *sheet, size_t sheet_len, float dt, float fps);
 
 /* ---- editing: the keys are those that menu_load filled */

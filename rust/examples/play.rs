@@ -5,7 +5,7 @@
 use std::error::Error;
 use std::{env, fs};
 
-use dovebolt::{Channels, Player, Tick, next_name, pane_count};
+use dovebolt::{Channels, Player, Tick, pane_count};
 
 /// A looping animation never ends: this many frames of it are enough to see.
 const MOST: usize = 100;
@@ -64,7 +64,7 @@ fn main() -> Result<(), Box<dyn Error>> {
         tick = player.tick(&sheet, 1.0 / 60.0, 60.0)?;
     }
     if tick == Tick::Next {
-        println!("next: {}", next_name(&sheet, animation)?);
+        println!("next: {}", player.next_name(&sheet)?);
     }
     Ok(())
 }

@@ -5,7 +5,7 @@ use crate::raw::{Vector2f, Vector3f};
 /// What a tick came to.
 ///
 /// ```
-/// use dovebolt::{Player, Tick, example, next_name};
+/// use dovebolt::{Player, Tick, example};
 ///
 /// let sheet = example::sheet();
 /// let (mut player, _) = Player::load(&sheet)?;
@@ -13,7 +13,7 @@ use crate::raw::{Vector2f, Vector3f};
 /// player.play(&sheet, Some(0))?;
 /// assert_eq!(player.tick(&sheet, 0.5, 8.0)?, Tick::Running);
 /// assert_eq!(player.tick(&sheet, 0.5, 8.0)?, Tick::Next);
-/// assert_eq!(next_name(&sheet, 0)?.text(), "Idle");
+/// assert_eq!(player.next_name(&sheet)?.text(), "Idle");
 /// # Ok::<(), dovebolt::Refusal>(())
 /// ```
 #[derive(Clone, Copy, Debug, PartialEq, Eq, Hash)]
@@ -24,7 +24,7 @@ pub enum Tick {
     Running,
     /// The animation ended.
     Ended,
-    /// The animation ended and names the one that comes next: [`crate::next_name`].
+    /// The animation ended and names the one that comes next: [`crate::Player::next_name`].
     Next,
 }
 

@@ -1,4 +1,5 @@
 use crate::answers::Tick;
+use crate::formats::{Name, next_name};
 use crate::keys::Keys;
 use crate::raw::{self, NONE};
 use crate::refusal::{Refusal, checked};
@@ -343,6 +344,27 @@ impl Player {
         checked(answer.refusal)?;
         self.raw = answer.player;
         Ok(tick_of(answer.answer))
+    }
+
+    /// The name of the animation that follows the selected one, empty where none does. A tick leaves the selection,
+    /// so after [`Tick::Next`] this is the name that the animation ended with. Refusals 1, 6.
+    ///
+    /// ```
+    /// use dovebolt::{Player, Tick, example};
+    ///
+    /// let sheet = example::sheet();
+    /// let (mut player, _) = Player::load(&sheet)?;
+    /// player.play(&sheet, Some(0))?;
+    /// let mut tick = Tick::Running;
+    /// while tick == Tick::Running {
+    ///     tick = player.tick(&sheet, 1.0 / 60.0, 60.0)?;
+    /// }
+    /// assert_eq!(tick, Tick::Next);
+    /// assert_eq!(player.next_name(&sheet)?.text(), "Idle");
+    /// # Ok::<(), dovebolt::Refusal>(())
+    /// ```
+    pub fn next_name(&self, sheet: &[u8]) -> Result<Name, Refusal> {
+        next_name(sheet, self.raw.selection)
     }
 
     /// Moves a key of the active animation to a frame and a value. Refusals 1, 3 to 9.

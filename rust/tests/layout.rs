@@ -158,18 +158,30 @@ fn journal() {
 fn ticks() {
     let (sheet, mut player, _) = loaded();
     assert_eq!(player.tick(&sheet, 0.5, 8.0), Ok(Tick::Idle));
+    assert_eq!(player.next_name(&sheet), Err(Refusal::Animation));
     player.play(&sheet, Some(0)).unwrap();
     assert_eq!(player.tick(&sheet, 0.5, 8.0), Ok(Tick::Running));
     assert_eq!(player.tick(&sheet, f32::NAN, 8.0), Err(Refusal::NotFinite));
     assert_eq!(player.frame(), 4.0);
     assert_eq!(player.tick(&sheet, 0.5, 8.0), Ok(Tick::Next));
     assert_eq!((player.frame(), player.playing()), (8.0, false));
+    assert_eq!(player.next_name(&sheet).unwrap().bytes(), b"Idle");
 
     // Without a next name: the byte that says whether there is one, and the name.
     let mut alone = sheet.clone();
     alone[15..15 + 25].fill(0);
     player.play(&alone, Some(0)).unwrap();
     assert_eq!(player.tick(&alone, 2.0, 8.0), Ok(Tick::Ended));
+    assert!(player.next_name(&alone).unwrap().is_empty());
+
+    // Names that fill the field, and that are empty although there is one.
+    let mut named = sheet.clone();
+    for bytes in [*b"the next one of 24 bytes", [0; 24]] {
+        named[16..16 + 24].copy_from_slice(&bytes);
+        player.play(&named, Some(0)).unwrap();
+        assert_eq!(player.tick(&named, 2.0, 8.0), Ok(Tick::Next));
+        assert_eq!(player.next_name(&named).unwrap().0, bytes);
+    }
 }
 
 #[test]

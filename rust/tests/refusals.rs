@@ -97,10 +97,12 @@ fn outputs_of_any_length_are_answered() {
         assert_eq!(out, vec![7; length]);
     }
     // The refusal of reading the slot comes first.
-    assert_eq!(
-        player.texture_name_into(&sheet, &book, &keys, 0, 3, &mut []),
-        Err(Refusal::NoSuch)
-    );
+    for slot in [3, 4, 65_535] {
+        assert_eq!(
+            player.texture_name_into(&sheet, &book, &keys, 0, slot, &mut []),
+            Err(Refusal::NoSuch)
+        );
+    }
     assert_eq!(
         dovebolt::next_name_into(&sheet, NONE, &mut []),
         Err(Refusal::Animation)

@@ -66,6 +66,10 @@ static menu_player playing(void) {
     CHECK(menu_tick(ticked.player, sheet, sheet_len, NAN, 8).refusal == MENU_NOT_FINITE);
     ticked = menu_tick(ticked.player, sheet, sheet_len, 0.5f, 8);
     CHECK(ticked.answer == MENU_NEXT && ticked.player.frame == 8 && !ticked.player.playing);
+    memset(name, 0xA5, MENU_NAME);
+    CHECK(menu_next_name(sheet, sheet_len, ticked.player.selection, name, MENU_NAME) == MENU_OK);
+    static const uint8_t idle[MENU_NAME] = "Idle";
+    CHECK(memcmp(name, idle, MENU_NAME) == 0);
 
     menu_played posed = menu_pose(ticked.player, sheet, sheet_len, 0, 4);
     CHECK(posed.refusal == MENU_OK && posed.player.frame == 4 && posed.player.selection == 0);
