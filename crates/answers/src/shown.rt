@@ -23,24 +23,13 @@ use reading::Reading;
 ghost use Rattle.sheet.specs.Checked.{Checked};
 ghost use Rattle.book.specs.Checked.{CheckedBook};
 
-// A material's channels: the first texture slot, and how many there are.
-const FIRST_TEXTURE: u16 = 15;
-
-const MATERIAL_CHANNELS: u16 = 30;
-
-// The channel of a texture slot; a slot that there isn't has a channel that there isn't.
-fn slot_channel(slot: u16) -> u16 {
-    if slot < 3 {
-        return FIRST_TEXTURE + slot;
-    }
-    MATERIAL_CHANNELS
-}
-
+// The texture slot of a channel that reads a texture row.
 fn slot_of(channel: u16) -> u16 {
-    if channel < FIRST_TEXTURE {
+    let first = channel::slot_channel(0);
+    if channel < first {
         return 0;
     }
-    channel - FIRST_TEXTURE
+    channel - first
 }
 
 fn say_shown(shown: bool) {
@@ -114,7 +103,7 @@ fn say_texture<'a>(
         values,
         slopes,
         c.first,
-        slot_channel(c.second),
+        channel::slot_channel(c.second),
     );
     if one.refusal != 0 {
         refused(one.refusal);

@@ -43,6 +43,13 @@ paneChannels = 28
 abbrev pub materialChannels : ℕ
 materialChannels = 30
 
+-- how many layers a material has, each with a texture slot, and the first slot's channel
+abbrev pub materialLayers : ℕ
+materialLayers = 3
+
+abbrev pub firstTexture : ℕ
+firstTexture = 15
+
 -- a raw number of an enum with n variants: one that targets.rs doesn't list gives the first variant
 unfoldable pub listed : ℕ → ℕ → ℕ
 listed n raw = cond (ltb raw n) raw 0
@@ -69,12 +76,16 @@ unfoldable pub materialChannel : Family → ℕ → ℕ → Found
 materialChannel PaneSrt raw layer = found.Nothing
 materialChannel Visibility raw layer = found.Nothing
 materialChannel VertexColor raw layer = found.Nothing
-materialChannel TextureSrt raw layer = cond (ltb layer 3) (found.At (layer * 5 + listed 5 raw)) found.Nothing
-materialChannel TexturePattern raw layer = cond (ltb layer 3) (found.At (15 + layer)) found.Nothing
+materialChannel TextureSrt raw layer = cond (ltb layer materialLayers) (found.At (layer * 5 + listed 5 raw)) found.Nothing
+materialChannel TexturePattern raw layer = cond (ltb layer materialLayers) (found.At (firstTexture + layer)) found.Nothing
 materialChannel IndirectSrt raw layer = found.At (18 + listed 3 raw)
 materialChannel AlphaCompare raw layer = found.At 21
 materialChannel MaterialColor raw layer = found.At (22 + colourPlace (listed 28 raw))
 materialChannel Other raw layer = found.Nothing
+
+-- The channel of a material's texture slot. A slot that there isn't has no channel: its number is one past the last.
+unfoldable pub slotChannel : ℕ → ℕ
+slotChannel slot = cond (ltb slot materialLayers) (firstTexture + slot) materialChannels
 
 -- ---- the channels of a book: panes first, then materials
 

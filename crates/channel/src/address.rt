@@ -7,13 +7,18 @@ ghost use mathlib.Core.Path.{_≡_};
 ghost use Prim.Native.Nat.{ℕ, _<_};
 ghost use Rattle.book.specs.Sizes.{materialCount};
 ghost use Rattle.book.specs.Checked.{CheckedBook};
-ghost use Rattle.channel.specs.Channel.{familyOf, listed, paneChannel, colourPlace, materialChannel, paneChannels, materialChannels, channelCount, ofPane, ofMaterial, rowChannel};
+ghost use Rattle.channel.specs.Channel.{familyOf, listed, paneChannel, colourPlace, materialChannel, slotChannel, paneChannels, materialChannels, channelCount, ofPane, ofMaterial, rowChannel};
 ghost use Rattle.channel.specs.Within.{ReachedIn};
 
 // How many channels a pane has, and a material.
 pub const PANE_CHANNELS: usize = 28;
 
 pub const MATERIAL_CHANNELS: usize = 30;
+
+// How many layers a material has, each with a texture slot, and the first slot's channel.
+const MATERIAL_LAYERS: usize = 3;
+
+const FIRST_TEXTURE: usize = 15;
 
 // The four letters of a code as one number, little-endian.
 const FLPA: u32 = 0x4150_4c46;
@@ -88,15 +93,15 @@ pub fn material_channel(f: Family, raw: usize, layer: usize) -> Found
 {
     match f {
         Family::TextureSrt => {
-            if layer < 3 {
+            if layer < MATERIAL_LAYERS {
                 Found::At(layer * 5 + listed(5, raw))
             } else {
                 Found::Nothing
             }
         }
         Family::TexturePattern => {
-            if layer < 3 {
-                Found::At(15 + layer)
+            if layer < MATERIAL_LAYERS {
+                Found::At(FIRST_TEXTURE + layer)
             } else {
                 Found::Nothing
             }
@@ -105,6 +110,17 @@ pub fn material_channel(f: Family, raw: usize, layer: usize) -> Found
         Family::AlphaCompare => Found::At(21),
         Family::MaterialColor => Found::At(22 + colour_place(listed(28, raw))),
         _ => Found::Nothing,
+    }
+}
+
+// The channel of a material's texture slot; one past the last where there is no such slot.
+pub fn slot_channel(slot: u16) -> u16
+    ensures { λ r. ⌜ r ≡ slotChannel slot ⌝ }
+{
+    if (slot as usize) < MATERIAL_LAYERS {
+        FIRST_TEXTURE as u16 + slot
+    } else {
+        MATERIAL_CHANNELS as u16
     }
 }
 

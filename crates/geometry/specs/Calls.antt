@@ -6,6 +6,7 @@ use mathlib.Core.List.{List}
 use lib.Dec.{eqb}
 use lib.ListN.{length}
 use lib.Ieee.{Float}
+use Rattle.laws.specs.Rows.{declines}
 use Rattle.float.specs.Numbers.{zero'}
 use Rattle.geometry.specs.declared.points.Vector2f.{Vector2f}
 use Rattle.geometry.specs.declared.points.Vector3f.{Vector3f}
@@ -14,7 +15,11 @@ use Rattle.geometry.specs.declared.Placed.{Placed}
 use Rattle.geometry.specs.declared.Turned.{Turned}
 use Rattle.geometry.specs.Corners.{rotated, cornersOf, translated}
 use Rattle.geometry.specs.Uvs.{baseUvs, applied, numbers}
-use Rattle.geometry.specs.Declined.{uvsRefusal, cornersRefusal, translateRefusal, rotateRefusal}
+use Rattle.geometry.specs.Declined.{uvsTable, cornersTable, translateTable, rotateTable}
+
+-- a call's refusal n, and beside it a where nothing is declined, else b; f puts the two together
+abbrev pub given : {A B : Type 0} → (ℕ → A → B) → ℕ → A → A → B
+given f n a b = f n (cond (eqb n 0) a b)
 
 -- what a call of `uvs` gives: its refusal, and the output as it leaves it
 pub record Filling : Type 0 where
@@ -26,9 +31,7 @@ filled n o = record { refusal = n; out = o }
 
 -- the numbers of the block of the layers ls under the SRTs ss, into o
 unfoldable pub uvsOf : List Float → List Float → List Float → Filling
-uvsOf ls ss o =
-    let n = uvsRefusal ls ss (length o) in
-    cond (eqb n 0) (filled 0 (numbers (applied (baseUvs ls) ss))) (filled n o)
+uvsOf ls ss o = given filled (declines (uvsTable ls ss (length o))) (numbers (applied (baseUvs ls) ss)) o
 
 -- +0 throughout
 abbrev pub noPoint : Vector2f
@@ -46,18 +49,12 @@ pointWith n p = record { refusal = n; point = p }
 
 -- `corners`
 unfoldable pub placedOf : Vector2f → Vector2f → ℕ → ℕ → Vector3f → Placed
-placedOf c size ox oy r =
-    let n = cornersRefusal c size ox oy r in
-    cond (eqb n 0) (cornersWith 0 (cornersOf c size ox oy r)) (cornersWith n noCorners)
+placedOf c size ox oy r = given cornersWith (declines (cornersTable c size ox oy r)) (cornersOf c size ox oy r) noCorners
 
 -- `translate`
 unfoldable pub movedOf : Corners → Vector2f → Placed
-movedOf k d =
-    let n = translateRefusal k d in
-    cond (eqb n 0) (cornersWith 0 (translated k d)) (cornersWith n noCorners)
+movedOf k d = given cornersWith (declines (translateTable k d)) (translated k d) noCorners
 
 -- `rotate_point`
 unfoldable pub turnedOf : Vector2f → Vector2f → Vector3f → Turned
-turnedOf p c r =
-    let n = rotateRefusal p c r in
-    cond (eqb n 0) (pointWith 0 (rotated p c r)) (pointWith n noPoint)
+turnedOf p c r = given pointWith (declines (rotateTable p c r)) (rotated p c r) noPoint

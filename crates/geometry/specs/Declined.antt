@@ -1,14 +1,14 @@
--- Document 01, "What a call declines", for the calls of "UVs and corners": rows 7, 8, 12 and 13, by rising number.
+-- Document 01, "What a call declines", for the calls of "UVs and corners": rows 7, 8, 12 and 13, each call's as a list of rows by rising number.
 use Prim.Native.Nat.{ℕ, _+_, _*_, _/_, _%_}
 use mathlib.Core.Bool.{Bool, _&&_}
-use mathlib.Core.List.{List}
+use mathlib.Core.List.{List, [], _∷_}
 use mathlib.Core.Path.{_≡_}
 use borrow.Author.Tests.{eqb-true}
 use lib.Dec.{eqb, leb}
 use lib.ListN.{length, getD}
 use lib.Ieee.{Float, nan, le, neg}
 use Rattle.laws.specs.Below.{allBelow}
-use Rattle.laws.specs.Refusals.{unless, passed}
+use Rattle.laws.specs.Rows.{Row, row, declines, held}
 use Rattle.float.specs.Numbers.{#, finite}
 use Rattle.geometry.specs.declared.points.Vector2f.{Vector2f}
 use Rattle.geometry.specs.declared.points.Vector3f.{Vector3f}
@@ -45,45 +45,40 @@ unfoldable pub anglesPass : List Float → Bool
 anglesPass ss = allBelow (length ss / 5) (angleAt ss)
 
 -- UVs: lists of whole entries (eight numbers a layer, five an SRT), all numbers finite (8); the angles (12); an output of 24 numbers (13)
-unfoldable pub uvsRefusal : List Float → List Float → ℕ → ℕ
-uvsRefusal ls ss n =
-    unless (eqb (length ls % 8) 0) 8
-    (unless (eqb (length ss % 5) 0) 8
-    (unless (allFinite ls) 8
-    (unless (allFinite ss) 8
-    (unless (anglesPass ss) 12
-    (unless (eqb n 24) 13 0)))))
+unfoldable pub uvsTable : List Float → List Float → ℕ → List Row
+uvsTable ls ss n =
+    row 8 (eqb (length ls % 8) 0)
+    ∷ row 8 (eqb (length ss % 5) 0)
+    ∷ row 8 (allFinite ls)
+    ∷ row 8 (allFinite ss)
+    ∷ row 12 (anglesPass ss)
+    ∷ row 13 (eqb n 24) ∷ []
 
 -- a call that is not declined has an output of 24 numbers
-pub uvs-length : (ls ss : List Float) (n : ℕ) → uvsRefusal ls ss n ≡ 0 → n ≡ 24
-unfolding uvsRefusal
-uvs-length ls ss n e =
-    let a = passed (eqb (length ls % 8) 0) 8 _ tt e .1 in
-    let b = passed (eqb (length ss % 5) 0) 8 _ tt a .1 in
-    let c = passed (allFinite ls) 8 _ tt b .1 in
-    let d = passed (allFinite ss) 8 _ tt c .1 in
-    let f = passed (anglesPass ss) 12 _ tt d .1 in
-    eqb-true n 24 (passed (eqb n 24) 13 0 tt f .0)
+pub uvs-length : (ls ss : List Float) (n : ℕ) → declines (uvsTable ls ss n) ≡ 0 → n ≡ 24
+unfolding uvsTable
+uvs-length ls ss n e = eqb-true n 24 (held _ tt e .1 .1 .1 .1 .1 .0)
 
--- a rotation: finite (8), and each angle (12)
-unfoldable pub rotationRefusal : Vector3f → ℕ
-rotationRefusal r =
-    unless (finite3 r) 8
-    (unless (anglePasses (r .x)) 12
-    (unless (anglePasses (r .y)) 12
-    (unless (anglePasses (r .z)) 12 0)))
+-- a rotation, the last rows of two calls: finite (8), and each angle (12)
+unfoldable pub rotationRows : Vector3f → List Row
+rotationRows r =
+    row 8 (finite3 r)
+    ∷ row 12 (anglePasses (r .x))
+    ∷ row 12 (anglePasses (r .y))
+    ∷ row 12 (anglePasses (r .z)) ∷ []
 
--- corners: the origins are 0, 1 or 2 (7); then the arguments
-unfoldable pub cornersRefusal : Vector2f → Vector2f → ℕ → ℕ → Vector3f → ℕ
-cornersRefusal c size ox oy r =
-    unless (leb ox 2) 7
-    (unless (leb oy 2) 7
-    (unless (finite2 c) 8
-    (unless (finite2 size) 8 (rotationRefusal r))))
+-- corners: the origins are 0, 1 or 2 (7); centre and size are finite (8); then the rotation
+unfoldable pub cornersTable : Vector2f → Vector2f → ℕ → ℕ → Vector3f → List Row
+cornersTable c size ox oy r =
+    row 7 (leb ox 2)
+    ∷ row 7 (leb oy 2)
+    ∷ row 8 (finite2 c)
+    ∷ row 8 (finite2 size) ∷ rotationRows r
 
--- moving corners, and turning a point
-unfoldable pub translateRefusal : Corners → Vector2f → ℕ
-translateRefusal k d = unless (finite4 k) 8 (unless (finite2 d) 8 0)
+-- moving corners: the numbers are finite (8)
+unfoldable pub translateTable : Corners → Vector2f → List Row
+translateTable k d = row 8 (finite4 k) ∷ row 8 (finite2 d) ∷ []
 
-unfoldable pub rotateRefusal : Vector2f → Vector2f → Vector3f → ℕ
-rotateRefusal p c r = unless (finite2 p) 8 (unless (finite2 c) 8 (rotationRefusal r))
+-- turning a point: point and centre are finite (8); then the rotation
+unfoldable pub rotateTable : Vector2f → Vector2f → Vector3f → List Row
+rotateTable p c r = row 8 (finite2 p) ∷ row 8 (finite2 c) ∷ rotationRows r

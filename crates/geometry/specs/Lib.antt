@@ -5,3 +5,4 @@ pub mod Uvs
 pub mod Layers
 pub mod Declined
 pub mod Calls
+pub mod Refused

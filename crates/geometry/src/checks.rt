@@ -8,7 +8,8 @@ use laws::refusal::BAD_ARGUMENT;
 use laws::refusal::NO_SUCH_ROW;
 use laws::refusal::OUTPUT_LENGTH;
 ghost use mathlib.Core.Path.{_≡_};
-ghost use Rattle.geometry.specs.Declined.{anglePasses, finite2, finite3, finite4, allFinite, anglesPass, rotationRefusal, uvsRefusal, cornersRefusal, translateRefusal, rotateRefusal};
+ghost use Rattle.laws.specs.Rows.{declines};
+ghost use Rattle.geometry.specs.Declined.{anglePasses, finite2, finite3, finite4, allFinite, anglesPass, rotationRows, uvsTable, cornersTable, translateTable, rotateTable};
 
 // At most 3,600 degrees in size.
 fn angle_passes(degrees: f32) -> bool
@@ -69,7 +70,7 @@ fn angles_pass(srts: &[f32]) -> bool
 }
 
 pub fn uvs_refusal(layers: &[f32], srts: &[f32], length: usize) -> u8
-    ensures { λ r. ⌜ r ≡ uvsRefusal (now (layers .entry)) (now (srts .entry)) length ⌝ }
+    ensures { λ r. ⌜ r ≡ declines (uvsTable (now (layers .entry)) (now (srts .entry)) length) ⌝ }
 {
     if layers.len() % 8 != 0 {
         return BAD_ARGUMENT;
@@ -93,7 +94,7 @@ pub fn uvs_refusal(layers: &[f32], srts: &[f32], length: usize) -> u8
 }
 
 fn rotation_refusal(rotation: Vector3f) -> u8
-    ensures { λ r. ⌜ r ≡ rotationRefusal rotation ⌝ }
+    ensures { λ r. ⌜ r ≡ declines (rotationRows rotation) ⌝ }
 {
     if !is_finite3(rotation) {
         return BAD_ARGUMENT;
@@ -117,7 +118,7 @@ pub fn corners_refusal(
     origin_y: u8,
     rotation: Vector3f,
 ) -> u8
-    ensures { λ r. ⌜ r ≡ cornersRefusal center size «origin_x» «origin_y» rotation ⌝ }
+    ensures { λ r. ⌜ r ≡ declines (cornersTable center size «origin_x» «origin_y» rotation) ⌝ }
 {
     if origin_x > 2 {
         return NO_SUCH_ROW;
@@ -135,7 +136,7 @@ pub fn corners_refusal(
 }
 
 pub fn translate_refusal(corners: Corners, delta: Vector2f) -> u8
-    ensures { λ r. ⌜ r ≡ translateRefusal corners delta ⌝ }
+    ensures { λ r. ⌜ r ≡ declines (translateTable corners delta) ⌝ }
 {
     if !is_finite4(corners) {
         return BAD_ARGUMENT;
@@ -147,7 +148,7 @@ pub fn translate_refusal(corners: Corners, delta: Vector2f) -> u8
 }
 
 pub fn rotate_refusal(point: Vector2f, center: Vector2f, rotation: Vector3f) -> u8
-    ensures { λ r. ⌜ r ≡ rotateRefusal point center rotation ⌝ }
+    ensures { λ r. ⌜ r ≡ declines (rotateTable point center rotation) ⌝ }
 {
     if !is_finite2(point) {
         return BAD_ARGUMENT;

@@ -1,12 +1,12 @@
 -- Loading (document 01, "Sheet and book": it copies the keys into three lent arrays, each of length K; and rows 1, 3 and 4 of "What a call declines").
 -- Definitions only.
 use Prim.Native.Nat.{ℕ}
-use mathlib.Core.List.{List}
-use mathlib.Core.Bool.{Bool, true, false, _&&_}
+use mathlib.Core.List.{List, [], _∷_}
+use mathlib.Core.Bool.{Bool, cond, _&&_}
 use lib.Dec.{eqb}
 use lib.ListN.{length}
 use lib.Ieee.{Float}
-use Rattle.laws.specs.Refusals.{unless}
+use Rattle.laws.specs.Rows.{Row, row, declines}
 use Rattle.sheet.specs.Sizes.{keyCount}
 use Rattle.sheet.specs.Sheet.{sheetOk}
 use Rattle.keys.specs.Keys.{keysOk}
@@ -16,12 +16,12 @@ use Rattle.keys.specs.Stored.{storedFrames, storedValues, storedSlopes}
 abbrev pub arraysOk : List ℕ → ℕ → ℕ → ℕ → Bool
 arraysOk s f v z = eqb f (keyCount s) && eqb v (keyCount s) && eqb z (keyCount s)
 
--- 1: the sheet breaks its layout; 3: a key array is not K long; 4: the sheet's keys break the key rules; 0: none of these
-unfoldable pub loadRefusal : List ℕ → ℕ → ℕ → ℕ → ℕ
-loadRefusal s f v z =
-    unless (sheetOk s) 1
-    (unless (arraysOk s f v z) 3
-    (unless (keysOk s (storedFrames s) (storedValues s) (storedSlopes s)) 4 0))
+-- Loading: the sheet's layout (1), each key array K long (3), the sheet's keys within the key rules (4)
+unfoldable pub loadTable : List ℕ → ℕ → ℕ → ℕ → List Row
+loadTable s f v z =
+    row 1 (sheetOk s)
+    ∷ row 3 (arraysOk s f v z)
+    ∷ row 4 (keysOk s (storedFrames s) (storedValues s) (storedSlopes s)) ∷ []
 
 -- what a call leaves: its number, and the three arrays
 pub record Loaded : Type 0 where
@@ -33,13 +33,11 @@ pub record Loaded : Type 0 where
 abbrev pub loaded : ℕ → List Float → List Float → List Float → Loaded
 loaded n fs vs ss = record { refusal = n; frames = fs; values = vs; slopes = ss }
 
-abbrev pub pickLoaded : Bool → Loaded → Loaded → Loaded
-pickLoaded true a b = a
-pickLoaded false a b = b
-
--- the sheet's keys where nothing is declined, else the arrays as they were
+-- the number; and the sheet's keys where it is 0, else the arrays as they were
 unfoldable pub loadOf : List ℕ → List Float → List Float → List Float → Loaded
 loadOf s fs vs ss =
-    pickLoaded (eqb (loadRefusal s (length fs) (length vs) (length ss)) 0)
-    (loaded 0 (storedFrames s) (storedValues s) (storedSlopes s))
-    (loaded (loadRefusal s (length fs) (length vs) (length ss)) fs vs ss)
+    let n = declines (loadTable s (length fs) (length vs) (length ss)) in
+    loaded n
+    (cond (eqb n 0) (storedFrames s) fs)
+    (cond (eqb n 0) (storedValues s) vs)
+    (cond (eqb n 0) (storedSlopes s) ss)

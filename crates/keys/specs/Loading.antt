@@ -1,21 +1,19 @@
--- What loading's tests tell, and its two outcomes. Assumes nothing.
+-- What loading's rows tell, and its two outcomes (document 01, "Sheet and book" and "What a call declines"). Assumes nothing.
 use Prim.Native.Nat.{ℕ, _+_}
 use mathlib.Core.List.{List}
-use mathlib.Core.Bool.{Bool, true, _&&_}
+use mathlib.Core.Bool.{_&&_}
 use mathlib.Core.Path.{_≡_, refl, sym, _∙_}
-use borrow.Author.Tests.{eqb-true, eq-eqb, ne-eqb}
+use borrow.Author.Tests.{eqb-true, ne-eqb}
 use lib.Dec.{eqb}
 use lib.ListN.{length}
 use lib.Ieee.{Float}
 use Rattle.laws.specs.Tests.{both}
-use Rattle.laws.specs.Refusals.{unless, passed}
+use Rattle.laws.specs.Rows.{declines, held}
 use Rattle.sheet.specs.Sizes.{keyCount, framesAt, pointsAt}
-use Rattle.sheet.specs.Sheet.{sheetOk}
 use Rattle.sheet.specs.Checked.{checked}
-use Rattle.keys.specs.Keys.{keysOk}
 use Rattle.keys.specs.Checked.{KeysChecked, keys-checked}
 use Rattle.keys.specs.Stored.{floatsFrom, storedFrames, storedValues, storedSlopes, Stored}
-use Rattle.keys.specs.Load.{arraysOk, loadRefusal, loaded, loadOf}
+use Rattle.keys.specs.Load.{loadTable, loaded, loadOf}
 
 -- where nothing is declined, the sheet's keys can be read, the arrays are K long, and the keys keep the rules
 pub record Loadable (s : List ℕ) (f v z : ℕ) : Type 0 where
@@ -25,17 +23,15 @@ pub record Loadable (s : List ℕ) (f v z : ℕ) : Type 0 where
   pub slopes : z ≡ keyCount s
   pub keys : KeysChecked s (storedFrames s) (storedValues s) (storedSlopes s)
 
-pub loadable : (s : List ℕ) (f v z : ℕ) → loadRefusal s f v z ≡ 0 → Loadable s f v z
-unfolding loadRefusal
+pub loadable : (s : List ℕ) (f v z : ℕ) → declines (loadTable s f v z) ≡ 0 → Loadable s f v z
+unfolding loadTable
 loadable s f v z e =
-    let l = passed (sheetOk s) 1 _ tt e in
-    let a = passed (arraysOk s f v z) 3 _ tt (l .1) in
-    let k = passed (keysOk s (storedFrames s) (storedValues s) (storedSlopes s)) 4 0 tt (a .1) in
-    let h = keys-checked s (storedFrames s) (storedValues s) (storedSlopes s) (k .0) in
-    let c = both (eqb f (keyCount s) && eqb v (keyCount s)) (eqb z (keyCount s)) (a .0) in
+    let r = held _ tt e in
+    let h = keys-checked s (storedFrames s) (storedValues s) (storedSlopes s) (r .1 .1 .0) in
+    let c = both (eqb f (keyCount s) && eqb v (keyCount s)) (eqb z (keyCount s)) (r .1 .0) in
     let b = both (eqb f (keyCount s)) (eqb v (keyCount s)) (c .0) in
     record {
-      stored = record { checked = checked s (l .0); numbers = h .numbers };
+      stored = record { checked = checked s (r .0); numbers = h .numbers };
       frames = eqb-true f (keyCount s) (b .0);
       values = eqb-true v (keyCount s) (b .1);
       slopes = eqb-true z (keyCount s) (c .1);
@@ -44,12 +40,20 @@ loadable s f v z e =
 
 module _ (s : List ℕ) (fs vs ss : List Float) where
   abbrev refusal : ℕ
-  refusal = loadRefusal s (length fs) (length vs) (length ss)
+  refusal = declines (loadTable s (length fs) (length vs) (length ss))
+
+  -- the number that it gives is its table's
+  pub load-number : loadOf s fs vs ss .refusal ≡ refusal
+  unfolding loadOf
+  load-number = refl
 
   -- declined: the arrays are as they were
-  pub load-declined : (n : ℕ) → n ≡ refusal → (n ≡ 0 → ⊥) → loaded n fs vs ss ≡ loadOf s fs vs ss
+  pub load-keeps : (refusal ≡ 0 → ⊥) → loadOf s fs vs ss ≡ loaded refusal fs vs ss
   unfolding loadOf
-  load-declined n e h = rw (← e, ne-eqb n 0 h)
+  load-keeps h = rw (ne-eqb refusal 0 h)
+
+  pub load-declined : (n : ℕ) → n ≡ refusal → (n ≡ 0 → ⊥) → loaded n fs vs ss ≡ loadOf s fs vs ss
+  load-declined n e h = rw e (sym (load-keeps (rw e at h)))
 
   -- done: they hold the sheet's keys
   pub load-done : (n : ℕ) → n ≡ refusal → n ≡ 0 → (xs ys zs : List Float) → xs ≡ floatsFrom s (framesAt s) 4 (length fs) → ys ≡ floatsFrom s (pointsAt s) 8 (length vs)
@@ -57,4 +61,4 @@ module _ (s : List ℕ) (fs vs ss : List Float) where
   unfolding loadOf storedFrames storedValues storedSlopes
   load-done n e h xs ys zs p q r =
       let w = loadable s (length fs) (length vs) (length ss) (sym e ∙ h) in
-      rw (← e, eq-eqb n 0 h, p, q, r, w .frames, w .values, w .slopes)
+      rw (sym e ∙ h, p, q, r, w .frames, w .values, w .slopes)

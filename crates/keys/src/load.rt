@@ -10,11 +10,12 @@ ghost use mathlib.Core.Path.{_≡_};
 ghost use Prim.Native.Nat.{ℕ, _+_, _*_, _<_};
 ghost use lib.ListN.{length};
 ghost use Rattle.keys.specs.Stored.{floatsFrom, Floats};
-ghost use Rattle.keys.specs.Load.{loadRefusal, loaded, loadOf};
+ghost use Rattle.laws.specs.Rows.{declines};
+ghost use Rattle.keys.specs.Load.{loadTable, loaded, loadOf};
 
 // Why arrays of these lengths can't be loaded, or 0.
 pub fn load_refusal(s: &[u8], frames: usize, values: usize, slopes: usize) -> u8
-    ensures { λ r. ⌜ r ≡ loadRefusal (now (s .entry)) frames values slopes ⌝ }
+    ensures { λ r. ⌜ r ≡ declines (loadTable (now (s .entry)) frames values slopes) ⌝ }
 {
     if !sheet::sheet_ok(s) {
         return SHEET_LAYOUT;

@@ -9,5 +9,6 @@ pub mod Last
 pub mod Table
 pub mod Grown
 pub mod Swept
-pub mod Refusals
+pub mod Rows
+pub mod Order
 pub mod Only

@@ -3,18 +3,20 @@ use Prim.Native.Nat.{ℕ, _<_}
 use mathlib.Core.Path.{_≡_}
 use mathlib.Core.Bool.{true}
 use mathlib.Core.List.{List}
+use Rattle.laws.specs.Rows.{declines}
 use Rattle.sheet.specs.Sheet.{sheetOk}
 use Rattle.sheet.specs.Sizes.{targetCount}
 use Rattle.sheet.specs.Rows.{targetRow}
 use Rattle.sheet.specs.Checked.{Checked, checked}
 use Rattle.player.specs.Keys.{Keys, put-length}
-use Rattle.player.specs.Edit.{Edit, place, edited, spotOf, madeEdit, editRefusal}
+use Rattle.player.specs.Edit.{Edit, place, edited, spotOf, madeEdit, editRows}
 use Rattle.player.specs.Put.{has-key, place-within, here-fits, fits-same}
 use Rattle.player.specs.Accepted.{HeldRequest, accepted-key, edit-fits, edit-keeps, edit-held}
-use Rattle.menu.specs.Calls.{lengthsOk, entryFor}
+use Rattle.menu.specs.Rows.{lengthsOk}
+use Rattle.menu.specs.Calls.{entryFor}
 use Rattle.machine.proofs.Invariant.{Sane, Fair}
 
-module _ (s : List ℕ) (ok : sheetOk s ≡ true) (ks : Keys) (sane : Sane s ks) (e : Edit) (held : HeldRequest (e .request)) (n : editRefusal s (e .animation) ks (e .track) (e .key) (e .request) ≡ 0) where
+module _ (s : List ℕ) (ok : sheetOk s ≡ true) (ks : Keys) (sane : Sane s ks) (e : Edit) (held : HeldRequest (e .request)) (n : declines (editRows s (e .animation) ks (e .track) (e .key) (e .request)) ≡ 0) where
   abbrev w : Checked s
   w = checked s ok
 
@@ -35,12 +37,12 @@ module _ (s : List ℕ) (ok : sheetOk s ≡ true) (ks : Keys) (sane : Sane s ks)
         within = place-within w ks (sane .rules) (e .track) (e .key) (there .0) (there .1);
         entry = accepted-key s (e .animation) ks (e .track) (e .key) (e .request) n .0;
         old = fits-same (ks .frames) (spotOf s (e .track) (e .key)) _ (here-fits w ks (sane .rules) (e .track) (e .key) (there .0) (there .1));
-        new = fits-same (ks .frames) (spotOf s (e .track) (e .key)) _ (edit-fits w ks (sane .rules) (sane .held) (e .animation) (e .track) (e .key) (e .request) held n);
+        new = fits-same (ks .frames) (spotOf s (e .track) (e .key)) _ (edit-fits w ks (sane .rules) (sane .held .frames) (e .animation) (e .track) (e .key) (e .request) held n);
         sane = sane;
         made =
             record {
               long = long-kept;
-              rules = edit-keeps w ks (sane .rules) (sane .held) (e .animation) (e .track) (e .key) (e .request) held n;
-              held = edit-held w ks (sane .rules) (sane .held) (e .animation) (e .track) (e .key) (e .request) held n;
+              rules = edit-keeps w ks (sane .rules) (sane .held .frames) (e .animation) (e .track) (e .key) (e .request) held n;
+              held = edit-held s ks (e .animation) (e .track) (e .key) (e .request) (sane .held) held n;
             };
       }

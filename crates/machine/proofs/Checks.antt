@@ -1,23 +1,21 @@
 -- Rows 1, 3, 4 and 5 decline no call on an image of the machine. Assumes nothing.
-use mathlib.Core.Path.{_≡_, refl, sym, _∙_, ap}
-use mathlib.Core.Bool.{Bool, true, false, _&&_}
-use mathlib.Core.List.{List}
+use mathlib.Core.Path.{_≡_, refl, _∙_, ap}
+use mathlib.Core.Bool.{Bool, true, false}
+use mathlib.Core.List.{List, [], _∷_, _++_}
 use Prim.Native.Nat.{ℕ, _+_, _-_, _≤_, _<_, _^_}
 use native.Mathlib.Omega.{arith}
 use borrow.Author.Tests.{le-leb, eq-eqb, leb-true, leb-false}
-use lib.Dec.{eqb, leb}
+use lib.Dec.{leb}
 use lib.ListN.{length}
-use Rattle.laws.specs.Refusals.{unless, pass}
+use Rattle.laws.specs.Rows.{Row, row, unless, declines, joined}
 use Rattle.laws.specs.Below.{allBelow, all-of}
-use Rattle.float.specs.Numbers.{finite}
 use Rattle.sheet.specs.Sheet.{sheetOk}
 use Rattle.player.specs.declared.journal.Journal.{Journal}
 use Rattle.player.specs.Journal.{rowOf}
-use Rattle.player.specs.Player.{selectionOk, entryOk, usedOk, countsOk, playerOk, most, rows}
+use Rattle.player.specs.Player.{entryOk, usedOk, countsOk, playerOk, most, rows}
 use Rattle.player.specs.Undo.{keysOkOf}
 use Rattle.book.specs.Book.{bookOk}
-use Rattle.menu.specs.Calls.{lengthsOk, checkPlayer, checkKeys}
-use Rattle.menu.specs.Readings.{checkBook}
+use Rattle.menu.specs.Rows.{lengthsOk, playerRows, stateRows, readingRows}
 use Rattle.machine.specs.Plain.{Plain, keysOf}
 use Rattle.machine.proofs.Invariant.{Good, image, back-ok, fore-ok}
 
@@ -50,20 +48,17 @@ module _ (s : List ℕ) (n : ℕ) (m : Plain) (j : Journal) (ok : sheetOk s ≡ 
   unfolding playerOk
   player-ok = rw (g .seen .selection, g .seen .frame, counts, used)
 
-  pub player-passes : (rest : ℕ) → checkPlayer s (image m j) rest ≡ rest
-  unfolding checkPlayer
-  player-passes rest = pass (sheetOk s) 1 _ ok ∙ pass (playerOk s (image m j)) 5 rest player-ok
+  -- so what a call's own rows say decides
+  pub player-passes : (own : List Row) → declines (playerRows s (image m j) ++ own) ≡ declines own
+  player-passes own = joined (playerRows s (image m j)) own (ok, (player-ok, tt))
 
-  pub keys-pass : (rest : ℕ) → checkKeys s (image m j) (keysOf s m) rest ≡ rest
-  unfolding checkKeys
-  keys-pass rest =
-      pass (sheetOk s) 1 _ ok ∙ pass (lengthsOk s (keysOf s m)) 3 _ (g .sane .long) ∙ pass (keysOkOf s (keysOf s m)) 4 _ (g .sane .rules) ∙
-      pass (playerOk s (image m j)) 5 rest player-ok
+  pub state-passes : (own : List Row) → declines (stateRows s (image m j) (keysOf s m) ++ own) ≡ declines own
+  state-passes own = joined (stateRows s (image m j) (keysOf s m)) own (ok, (g .sane .long, (g .sane .rules, (player-ok, tt))))
 
   -- a reading is declined by what it alone looks at: the book, and its own rows
-  pub book-passes : (b : List ℕ) (rest : ℕ) → checkBook s b (image m j) (keysOf s m) rest ≡ unless (bookOk b) 2 rest
-  unfolding checkBook
-  book-passes b rest =
-      pass (sheetOk s) 1 _ ok ∙
+  pub reading-passes : (b : List ℕ) (own : List Row) → declines (readingRows s b (image m j) (keysOf s m) ++ own) ≡ declines (row 2 (bookOk b) ∷ own)
+  unfolding declines
+  reading-passes b own =
+      joined (row 1 (sheetOk s) ∷ []) (row 2 (bookOk b) ∷ row 3 (lengthsOk s (keysOf s m)) ∷ row 4 (keysOkOf s (keysOf s m)) ∷ row 5 (playerOk s (image m j)) ∷ own) (ok, tt) ∙
       ap (unless (bookOk b) 2)
-      (pass (lengthsOk s (keysOf s m)) 3 _ (g .sane .long) ∙ pass (keysOkOf s (keysOf s m)) 4 _ (g .sane .rules) ∙ pass (playerOk s (image m j)) 5 rest player-ok)
+      (joined (row 3 (lengthsOk s (keysOf s m)) ∷ row 4 (keysOkOf s (keysOf s m)) ∷ row 5 (playerOk s (image m j)) ∷ []) own (g .sane .long, (g .sane .rules, (player-ok, tt))))

@@ -8,24 +8,24 @@ use native.Mathlib.Nat.{eq-or-lt-of-le, le-of-suc-le-suc}
 use native.Mathlib.Omega.{arith}
 use lib.ListN.{length}
 use Rattle.float.specs.Numbers.{finite}
-use Rattle.curve.specs.Before.{Held}
 use Rattle.player.specs.declared.Player.{Player}
 use Rattle.player.specs.declared.journal.Entry.{Entry}
 use Rattle.player.specs.declared.journal.Journal.{Journal}
-use Rattle.player.specs.Keys.{Keys, keyAt, Within}
+use Rattle.player.specs.Keys.{Keys, HeldKeys, keyAt, Within}
 use Rattle.player.specs.Journal.{rowOf, withRow, Whole, row-other}
 use Rattle.player.specs.Player.{selectionOk, entryOk, rows}
 use Rattle.player.specs.View.{View}
 use Rattle.player.specs.Edit.{Edit, place, edited, madeEdit}
 use Rattle.player.specs.Undo.{sameKey, keysOkOf}
-use Rattle.menu.specs.Calls.{lengthsOk, entryFor}
+use Rattle.menu.specs.Rows.{lengthsOk}
+use Rattle.menu.specs.Calls.{entryFor}
 use Rattle.machine.specs.Plain.{Plain, replay, keysOf}
 
--- keys as each call finds and leaves them: as long as the sheet says, within the key rules, and with f32 frames, as a lent slice has
+-- keys as each call finds and leaves them: as long as the sheet says, within the key rules, and f32 in all three arrays, as a lent slice is
 pub record Sane (s : List ℕ) (ks : Keys) : Type 0 where
   pub long : lengthsOk s ks ≡ true
   pub rules : keysOkOf s ks ≡ true
-  pub held : Held (ks .frames)
+  pub held : HeldKeys ks
 
 -- an edit that may be made on ks
 pub record Fair (s : List ℕ) (ks : Keys) (e : Edit) : Type 0 where

@@ -7,7 +7,7 @@ use Rattle.laws.specs.First.{firstBelow}
 use Rattle.laws.specs.Last.{lastBelow}
 use Rattle.laws.specs.Sum.{sumBelow}
 use Rattle.laws.specs.Grown.{grow}
-use Rattle.laws.specs.Refusals.{unless}
+use Rattle.laws.specs.Rows.{unless, declines}
 use Rattle.laws.specs.Table.{table}
 use Rattle.float.specs.Numbers.{sameBits}
 use Rattle.float.specs.Clamp.{clampOf, maxOf}
@@ -25,7 +25,7 @@ use Rattle.book.specs.Rows.{paneRow}
 use Rattle.keys.specs.Rules.{finiteKey, constantKey, stepKey, curveOk, trackOk}
 use Rattle.keys.specs.Keys.{keysFit, heldTrack, keysOk}
 use Rattle.keys.specs.Stored.{storedFrames, storedValues, storedSlopes}
-use Rattle.keys.specs.Load.{loadRefusal, loadOf}
+use Rattle.keys.specs.Load.{loadTable, loadOf}
 use Rattle.curve.specs.Keys.{before}
 use Rattle.curve.specs.Span.{spanOf}
 use Rattle.curve.specs.Curve.{curveTaken, valueOf, evalCurve}
@@ -40,14 +40,15 @@ use Rattle.resolve.specs.Cascade.{under, above, rowFrom, cascade, visibles, alp
 use Rattle.player.specs.Keys.{keyAt, putKey}
 use Rattle.player.specs.Player.{freshPlayer, selectionOk, hasKey, usedOk, countsOk, playerOk}
 use Rattle.player.specs.View.{playView, poseView, ticks, tickSum, countOf, wraps, tickFrame, tickEnds, endOf, tickView, tickAnswer}
-use Rattle.player.specs.Edit.{place, spotOf, lowest, highest, clampedFrame, editedFrame, editedValue, editedAt, edited, overtakes, requestRefusal, keyIn, editRefusal}
-use Rattle.menu.specs.Calls.{lengthsOk, checkPlayer, checkKeys, playRest, poseRest, tickMoves, tickRest, playOf, poseOf, tickOf, editOf, loadedOf}
-use Rattle.menu.specs.Readings.{checkBook, activeIn, paneChannelRest, materialChannelRest, cascadeRest, oneOf, rowsOf, readPaneOf, readMaterialOf, cascadeOf}
+use Rattle.player.specs.Edit.{place, spotOf, lowest, highest, clampedFrame, editedFrame, editedValue, editedAt, edited, overtakes, requestRows, keyIn, editRows}
+use Rattle.menu.specs.Rows.{lengthsOk, playRows, poseRows, tickMoves, tickRows, paneChannelRows, materialChannelRows, cascadeRows, playTable, poseTable, tickTable, editTable, readPaneTable, readMaterialTable, cascadeTable}
+use Rattle.menu.specs.Calls.{playOf, poseOf, tickOf, editOf, loadedOf}
+use Rattle.menu.specs.Readings.{activeIn, oneOf, cascadedOf, readPaneOf, readMaterialOf, cascadeOf}
 use Rattle.machine.specs.Small as small
 use Rattle.machine.specs.Poses as poses
 
 laws : Unit {0}
-unfolding allBelow firstBelow lastBelow sumBelow grow unless table
+unfolding allBelow firstBelow lastBelow sumBelow grow unless declines table
 laws = tt
 
 numbers : Unit {0}
@@ -63,7 +64,7 @@ unfolding sheet.sizesOk sheet.lengthOk sheet.animationOk sheet.contentOk sheet.t
 formats = tt
 
 keys : Unit {0}
-unfolding finiteKey constantKey stepKey curveOk trackOk keysFit heldTrack keysOk storedFrames storedValues storedSlopes loadRefusal loadOf
+unfolding finiteKey constantKey stepKey curveOk trackOk keysFit heldTrack keysOk storedFrames storedValues storedSlopes loadTable loadOf
 keys = tt
 
 curves : Unit {0}
@@ -71,7 +72,7 @@ unfolding before spanOf curveTaken valueOf evalCurve
 curves = tt
 
 shapes : Unit {0}
-unfolding declined.finiteAt declined.allFinite declined.angleAt declined.anglesPass declined.uvsRefusal declined.rotationRefusal declined.cornersRefusal uvs.transformOf uvs.unitSquare uvs.layerUv uvs.cornerUvs uvs.cornerDone uvs.layerApplied uvs.numberOf rotated startOf cornersOf uvsOf placedOf
+unfolding declined.finiteAt declined.allFinite declined.angleAt declined.anglesPass declined.uvsTable declined.rotationRows declined.cornersTable uvs.transformOf uvs.unitSquare uvs.layerUv uvs.cornerUvs uvs.cornerDone uvs.layerApplied uvs.numberOf rotated startOf cornersOf uvsOf placedOf
 shapes = tt
 
 readings : Unit {0}
@@ -79,15 +80,15 @@ unfolding familyOf listed paneChannel colourPlace materialChannel ofPane ofMater
 readings = tt
 
 player : Unit {0}
-unfolding keyAt putKey freshPlayer selectionOk hasKey usedOk countsOk playerOk playView poseView ticks tickSum countOf wraps tickFrame tickEnds endOf tickView tickAnswer place spotOf lowest highest clampedFrame editedFrame editedValue editedAt edited overtakes requestRefusal keyIn editRefusal
+unfolding keyAt putKey freshPlayer selectionOk hasKey usedOk countsOk playerOk playView poseView ticks tickSum countOf wraps tickFrame tickEnds endOf tickView tickAnswer place spotOf lowest highest clampedFrame editedFrame editedValue editedAt edited overtakes requestRows keyIn editRows
 player = tt
 
 calls : Unit {0}
-unfolding lengthsOk checkPlayer checkKeys playRest poseRest tickMoves tickRest playOf poseOf tickOf editOf loadedOf checkBook activeIn paneChannelRest materialChannelRest cascadeRest oneOf rowsOf readPaneOf readMaterialOf cascadeOf
+unfolding lengthsOk playRows poseRows tickMoves tickRows paneChannelRows materialChannelRows cascadeRows playTable poseTable tickTable editTable readPaneTable readMaterialTable cascadeTable playOf poseOf tickOf editOf loadedOf activeIn oneOf cascadedOf readPaneOf readMaterialOf cascadeOf
 calls = tt
 
 pose-table : Unit {0}
-unfolding small.over small.minus small.whole small.u16 small.f32 small.name small.allKeys small.contents small.targets small.frames small.points small.sheet small.pane small.book poses.bits poses.told poses.readOne poses.met poses.ticked poses.loaded poses.posed poses.playing poses.readPane poses.readMaterial poses.paneTrack poses.colourTrack poses.moves poses.still poses.shows poses.colours poses.fades poses.curveAt poses.tickAt poses.editTo poses.uvUnder poses.topLeft poses.childAlpha poses.poses poses.same poses.right
+unfolding small.over small.below small.minus small.whole small.u16 small.f32 small.name small.allKeys small.contents small.targets small.frames small.points small.sheet small.pane small.book poses.bits poses.told poses.readOne poses.met poses.ticked poses.seen poses.played poses.loaded poses.posed poses.playing poses.viewing poses.readPane poses.readMaterial poses.paneTrack poses.colourTrack poses.moves poses.still poses.shows poses.colours poses.fades poses.curveAt poses.tickAt poses.playFrom5 poses.poseFrom5 poses.tickOn poses.readBy poses.editTo poses.uvUnder poses.topLeft poses.childAlpha poses.shared poses.poses poses.same poses.right
 pose-table = tt
 
 pub known : T (poses.right poses.poses)

@@ -10,7 +10,7 @@ use Rattle.sheet.specs.Sheet.{sheetOk}
 use Rattle.player.specs.declared.journal.Journal.{Journal}
 use Rattle.player.specs.Keys.{Keys}
 use Rattle.player.specs.Journal.{emptyJournal, whole-empty}
-use Rattle.player.specs.Player.{freshPlayer, selectionOk}
+use Rattle.player.specs.Player.{freshPlayer, selectionOk, rows}
 use Rattle.player.specs.View.{viewOf}
 use Rattle.machine.specs.Runs.{last, answers, Each}
 use Rattle.machine.specs.Calls.{Call, HeldCall, State, stepP}
@@ -19,7 +19,8 @@ use Rattle.menu.specs.Calls.{loadedOf}
 use Rattle.machine.proofs.Loaded.{loaded-sheet, loaded-sane}
 use Rattle.machine.proofs.Simulates.{runs}
 use Rattle.machine.proofs.Invariant.{Sane, Good}
-use Rattle.machine.proofs.Steps.{stateOf, step-kept}
+use Rattle.machine.proofs.Kept.{stateOf}
+use Rattle.machine.proofs.Steps.{step-kept}
 
 -- the player with its keys is the machine
 pub record Agree (s : List ℕ) (t : State) (m : Plain) : Type 0 where
@@ -32,6 +33,7 @@ pub record Agree (s : List ℕ) (t : State) (m : Plain) : Type 0 where
   pub undone : t .player .undone ≡ m .undone
   pub redone : t .player .redone ≡ m .redone
   pub sums : t .player .accepted + t .player .redone ≡ t .player .undone + t .player .standing
+  pub within : t .player .reach ≤ rows
 
 -- after n calls
 record Related (s : List ℕ) (n : ℕ) (t : State) (m : Plain) : Type 0 where
@@ -83,14 +85,15 @@ module _ (s : List ℕ) (ok : sheetOk s ≡ true) where
           undone = ap (λ t. t .player .undone) i;
           redone = ap (λ t. t .player .redone) i;
           sums = rw i (r .1 .good .sums);
+          within = rw i (let g = r .1 .good .room in omega arith);
         },
         r .2,
       )
 
 -- Demand 3, whole. Load any sheet into any arrays; where that is not declined, make any list of at most 2^40 calls, refused ones, damaged books,
 -- NaNs and outputs of every length included: the keys are the loaded ones with the standing edits made in order, counts, selection, playing,
--- preview and frame are the plain machine's, standing is the standing list's length, accepted + redone = undone + standing, and every answer with
--- every output is the machine's.
+-- preview and frame are the plain machine's, standing is the standing list's length, accepted + redone = undone + standing, reach is at most 128,
+-- and every answer with every output is the machine's, a tick's next name too.
 pub standing-edits-decide : (s : List ℕ) (arrays : Keys) → loadedOf s arrays .refusal ≡ 0 → (cs : List Call) → Each HeldCall cs → length cs ≤ 2 ^ 40
     → Agree s (last (stepP s) cs (record { player = loadedOf s arrays .player; keys = loadedOf s arrays .keys })) (last (stepM s) cs (freshM (loadedOf s arrays .keys)))
     × (answers (stepP s) cs (record { player = loadedOf s arrays .player; keys = loadedOf s arrays .keys }) ≡ answers (stepM s) cs (freshM (loadedOf s arrays .keys)))

@@ -1,18 +1,19 @@
 -- The calls that demand 3 speaks of, what each answers, and the step that each makes of a player with its keys: the very definitions that the
 -- contracts of crate menu cite. Definitions only.
 use Prim.Native.Nat.{ℕ}
-use mathlib.Core.List.{List}
+use mathlib.Core.List.{List, []}
 use lib.Dec.{T}
 use lib.Ieee.{Float, binary32, fits}
 use Rattle.player.specs.declared.Player.{Player}
 use Rattle.player.specs.declared.Tick.{Tick}
+use Rattle.player.specs.declared.Tick.the-variants.{Idle, Running, Ended, Next}
 use Rattle.player.specs.Keys.{Keys}
 use Rattle.player.specs.declared.edit.Request.{Request}
 use Rattle.player.specs.Accepted.{HeldRequest}
 use Rattle.menu.specs.declared.playing.Played.{Played}
 use Rattle.menu.specs.declared.playing.Ticked.{Ticked}
 use Rattle.machine.specs.Asks.{Ask, Told, tellOf}
-use Rattle.menu.specs.Calls.{Changed, playOf, poseOf, tickOf, editOf, undoOf, redoOf}
+use Rattle.menu.specs.Calls.{Changed, playOf, poseOf, tickOf, editOf, undoOf, redoOf, nextNameOf}
 
 -- a call: what it takes, player and keys apart
 pub data Call : Type 0 where
@@ -35,11 +36,19 @@ HeldCall undo = Unit {0}
 HeldCall redo = Unit {0}
 HeldCall (ask b q) = Unit {0}
 
--- what a call answers: a refusal's number, 0 for none; for a tick what it met; for a reading what it tells
+-- what a call answers: a refusal's number, 0 for none; for a tick what it met, and the next name that it ended with, as the Rust's tick returns it;
+-- for a reading what it tells
 pub data Answer : Type 0 where
   number : ℕ → Answer
-  ticked : ℕ → Tick → Answer
+  ticked : ℕ → Tick → List ℕ → Answer
   told : Told → Answer
+
+-- the name, where a tick ended with one, and else none
+abbrev pub onNext : Tick → List ℕ → List ℕ
+onNext Idle name = []
+onNext Running name = []
+onNext Ended name = []
+onNext Next name = name
 
 -- a player with its keys
 pub record State : Type 0 where
@@ -49,8 +58,9 @@ pub record State : Type 0 where
 abbrev pub afterPlay : Keys → Played → State × Answer
 afterPlay ks r = (record { player = r .player; keys = ks }, number (r .refusal))
 
-abbrev pub afterTick : Keys → Ticked → State × Answer
-afterTick ks r = (record { player = r .player; keys = ks }, ticked (r .refusal) (r .answer))
+-- the next name is what the call `next_name` answers for the selection after the tick
+abbrev pub afterTick : List ℕ → Keys → Ticked → State × Answer
+afterTick s ks r = (record { player = r .player; keys = ks }, ticked (r .refusal) (r .answer) (onNext (r .answer) (nextNameOf s (r .player .selection))))
 
 abbrev pub afterChange : Changed → State × Answer
 afterChange r = (record { player = r .player; keys = r .keys }, number (r .refusal))
@@ -59,7 +69,7 @@ afterChange r = (record { player = r .player; keys = r .keys }, number (r .refus
 abbrev pub stepP : List ℕ → Call → State → State × Answer
 stepP s (play a) t = afterPlay (t .keys) (playOf s (t .player) a)
 stepP s (pose a x) t = afterPlay (t .keys) (poseOf s (t .player) a x)
-stepP s (tick dt fps) t = afterTick (t .keys) (tickOf s (t .player) dt fps)
+stepP s (tick dt fps) t = afterTick s (t .keys) (tickOf s (t .player) dt fps)
 stepP s (edit track key r) t = afterChange (editOf s (t .player) (t .keys) track key r)
 stepP s undo t = afterChange (undoOf s (t .player) (t .keys))
 stepP s redo t = afterChange (redoOf s (t .player) (t .keys))

@@ -2,6 +2,5 @@ pub mod Runs
 pub mod Asks
 pub mod Calls
 pub mod Plain
-pub mod Table
 pub mod Small
 pub mod Poses

@@ -1,19 +1,18 @@
 -- The plain machine (document 01, "Playing and editing"): fed the calls alone, it holds the loaded keys, the list of standing edits, the redo list,
 -- a reach of 0..128, three counts and a fresh player's view. It declines by the table on its own state. Definitions only.
 use Prim.Native.Nat.{ℕ, zero, suc, _+_, min}
-use mathlib.Core.Bool.{Bool, true, false}
 use mathlib.Core.List.{List, [], _∷_}
-use lib.Dec.{eqb}
 use lib.Ieee.{Float}
-use Rattle.float.specs.Numbers.{zero'}
+use Rattle.laws.specs.Rows.{declines}
+use Rattle.sheet.specs.Rows.{nextName}
 use Rattle.player.specs.declared.Tick.the-variants.{Idle}
 use Rattle.player.specs.Keys.{Keys}
-use Rattle.player.specs.Player.{none, rows}
+use Rattle.player.specs.Player.{rows}
 use Rattle.player.specs.View.{View, noView, playView, poseView, tickView, tickAnswer}
 use Rattle.player.specs.declared.edit.Request.{Request}
-use Rattle.player.specs.Edit.{Edit, madeEdit, editRefusal}
-use Rattle.menu.specs.Calls.{playRest, poseRest, tickRest}
-use Rattle.machine.specs.Calls.{Call, play, pose, tick, edit, undo, redo, ask, Answer, number, ticked, told}
+use Rattle.player.specs.Edit.{Edit, madeEdit, editRows}
+use Rattle.menu.specs.Rows.{playRows, poseRows, tickRows}
+use Rattle.machine.specs.Calls.{Call, play, pose, tick, edit, undo, redo, ask, Answer, number, ticked, told, onNext}
 use Rattle.machine.specs.Asks.{askRefusal, tellIn}
 
 -- Standing (document 01's word): the edits that stand, here with the newest first. `redo`: the edits that an undo moved there, the one moved last first.
@@ -55,9 +54,13 @@ abbrev pub moves : ℕ → Plain → View → Plain × Answer
 moves zero m v = (viewed m v, number 0)
 moves (suc n) m v = (m, number (suc n))
 
+-- a tick that ends with a next name answers the field that the sheet has for the selected animation
 abbrev pub ticksOn : ℕ → List ℕ → Float → Float → Plain → Plain × Answer
-ticksOn zero s dt fps m = (viewed m (tickView s dt fps (m .view)), ticked 0 (tickAnswer s dt fps (m .view)))
-ticksOn (suc n) s dt fps m = (m, ticked (suc n) Idle)
+ticksOn zero s dt fps m = (
+  viewed m (tickView s dt fps (m .view)),
+  ticked 0 (tickAnswer s dt fps (m .view)) (onNext (tickAnswer s dt fps (m .view)) (nextName s (m .view .selection))),
+)
+ticksOn (suc n) s dt fps m = (m, ticked (suc n) Idle [])
 
 -- Accepted edit: append, reach + 1 up to 128, redo emptied, accepted + 1.
 abbrev pub edits : ℕ → Plain → Edit → Plain × Answer
@@ -117,10 +120,10 @@ asked m track key r = record { animation = m .view .selection; track = track; ke
 
 -- the machine's step
 abbrev pub stepM : List ℕ → Call → Plain → Plain × Answer
-stepM s (play a) m = moves (playRest s a) m (playView a (m .view))
-stepM s (pose a x) m = moves (poseRest x) m (poseView s a x)
-stepM s (tick dt fps) m = ticksOn (tickRest s (m .view) dt fps) s dt fps m
-stepM s (edit track key r) m = edits (editRefusal s (m .view .selection) (keysOf s m) track key r) m (asked m track key r)
+stepM s (play a) m = moves (declines (playRows s a)) m (playView a (m .view))
+stepM s (pose a x) m = moves (declines (poseRows x)) m (poseView s a x)
+stepM s (tick dt fps) m = ticksOn (declines (tickRows s (m .view) dt fps)) s dt fps m
+stepM s (edit track key r) m = edits (declines (editRows s (m .view .selection) (keysOf s m) track key r)) m (asked m track key r)
 stepM s undo m = undoes m (m .reach) (m .standing)
 stepM s redo m = redoes m (m .redo)
 stepM s (ask b q) m = (m, told (tellIn s b (m .view) (keysOf s m) (askRefusal b q) q))

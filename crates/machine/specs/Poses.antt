@@ -1,6 +1,7 @@
 -- Document 01, "Known poses" and its misreadings: one table, in that section's order. Each row names what is computed, by the definitions that the
 -- contracts of the outward functions cite, and what it must be. Readings, ticks, edits and the cascade are made by calls on whole sheets and
--- books: the sheet is loaded, and played or posed by its calls. Definitions only.
+-- books: the sheet is loaded, and played or posed by its calls. Behind them stand cases of "Playing and editing" and "Channels" in which the
+-- player and the plain machine use the same definition, so that the claim over lists can't notice a wrong one. Definitions only.
 use Prim.Native.Nat.{ℕ}
 use mathlib.Core.Bool.{Bool, true, false, _&&_, cond}
 use mathlib.Core.List.{List, [], _∷_, map}
@@ -19,12 +20,14 @@ use Rattle.player.specs.declared.Tick.{Tick}
 use Rattle.player.specs.declared.Tick.the-variants.{Idle, Running, Ended, Next}
 use Rattle.player.specs.declared.edit.Request.the-variants as request
 use Rattle.player.specs.Keys.{Keys, keys}
-use Rattle.player.specs.Player.{freshPlayer}
+use Rattle.player.specs.Player.{none, freshPlayer}
+use Rattle.player.specs.View.{withView}
+use Rattle.menu.specs.declared.playing.Played.{Played}
 use Rattle.menu.specs.declared.playing.Ticked.{Ticked}
 use Rattle.menu.specs.declared.readings.ReadOne.{ReadOne}
-use Rattle.menu.specs.Calls.{Changed, loadedOf, playOf, poseOf, tickOf, editOf}
-use Rattle.menu.specs.Readings.{Rows, readPaneOf, readMaterialOf, cascadeOf}
-use Rattle.machine.specs.Small.{over, minus, whole, Track, sheet, book, parent, child, material}
+use Rattle.menu.specs.Calls.{loadedOf, playOf, poseOf, tickOf, editOf}
+use Rattle.menu.specs.Readings.{readPaneOf, readMaterialOf, cascadeOf}
+use Rattle.machine.specs.Small.{over, below, minus, whole, Track, sheet, book, parent, child, material}
 
 -- ---- answers as numbers: a refusal first, and an f32 by its bits
 
@@ -52,6 +55,13 @@ met Next = 3
 unfoldable pub ticked : Ticked → List ℕ
 ticked r = r .refusal ∷ met (r .answer) ∷ bits (r .player .frame) ∷ []
 
+-- what a player selects, whether it plays, whether preview is on, and its frame
+unfoldable pub seen : Player → List ℕ
+seen p = p .selection ∷ cond (p .playing) 1 0 ∷ cond (p .preview) 1 0 ∷ bits (p .frame) ∷ []
+
+unfoldable pub played : Played → List ℕ
+played r = r .refusal ∷ seen (r .player)
+
 -- ---- calls on a sheet
 
 -- its keys, loaded
@@ -64,6 +74,10 @@ posed s x = poseOf s freshPlayer 0 x .player
 
 unfoldable pub playing : List ℕ → Float → Player
 playing s x = tickOf s (playOf s freshPlayer 0 .player) x (whole 1) .player
+
+-- a player of this view, set by hand
+unfoldable pub viewing : ℕ → Bool → Bool → Float → Player
+viewing selection plays preview x = withView freshPlayer (record { selection = selection; playing = plays; preview = preview; frame = x })
 
 -- flags of a pane: visible, and influencing alpha
 abbrev pub visible : ℕ
@@ -154,6 +168,21 @@ curveAt curve ks x = readPane (moves curve ks) x translateX
 unfoldable pub tickAt : List ℕ → Float → Float → Float → List ℕ
 tickAt s x dt fps = ticked (tickOf s (playing s x) dt fps)
 
+-- a player of 60 frames, posed at 5: play, pose and tick of it
+unfoldable pub playFrom5 : ℕ → List ℕ
+playFrom5 a = played (playOf (still 0) (posed (still 0) (whole 5)) a)
+
+unfoldable pub poseFrom5 : ℕ → Float → List ℕ
+poseFrom5 a x = played (poseOf (still 0) (posed (still 0) (whole 5)) a x)
+
+-- half a second at 8 frames a second: what is met, and what is seen afterwards
+unfoldable pub tickOn : List ℕ → Player → Float → List ℕ
+tickOn s p dt = let r = tickOf s p dt (whole 8) in r .refusal ∷ met (r .answer) ∷ seen (r .player)
+
+-- channel x of the parent under a curve of the value 7, by a player of this view
+unfoldable pub readBy : Player → List ℕ
+readBy p = let s = moves kindConstant (key zero' (whole 7) zero' ∷ []) in readOne (readPaneOf s (book influences) p (loaded s) 0 translateX)
+
 -- key 0 moved to frame x, its value 1 kept: the frames that stand afterwards
 unfoldable pub editTo : List ℕ → Float → List ℕ
 editTo s x = let r = editOf s (posed s zero') (loaded s) 0 0 (request.Key x (whole 1)) in r .refusal ∷ map bits (r .keys .frames)
@@ -200,11 +229,47 @@ ended x = 0 ∷ 2 ∷ bits x ∷ []
 abbrev pub accepted : List Float → List ℕ
 accepted xs = 0 ∷ map bits xs
 
+-- a view as `seen` has it: nothing selected, not playing, preview off, frame +0; and one of animation 0 or of none
+abbrev pub cleared : List ℕ
+cleared = none ∷ 0 ∷ 0 ∷ bits zero' ∷ []
+
+abbrev pub viewOn : ℕ → ℕ → ℕ → Float → List ℕ
+viewOn selection plays preview x = selection ∷ plays ∷ preview ∷ bits x ∷ []
+
+abbrev pub nothing : List ℕ
+nothing = 0 ∷ 0 ∷ []
+
 abbrev pub hidden : List ℕ
 hidden = 0 ∷ 2 ∷ 0 ∷ []
 
 abbrev pub level : ℕ → List ℕ
 level l = 0 ∷ 4 ∷ l ∷ []
+
+-- cases that the player and the plain machine share
+unfoldable pub shared : List Pose
+shared =
+    -- Play as the Rust: from frame +0, playing, preview on; play of none does nothing; play from A up is declined by 6.
+    playFrom5 0 gives (0 ∷ viewOn 0 1 1 zero')
+    ∷ playFrom5 none gives (0 ∷ viewOn 0 0 1 (whole 5))
+    ∷ playFrom5 1 gives (6 ∷ viewOn 0 0 1 (whole 5))
+    -- Pose: at the frame, not playing, preview on. Pose from A up clears the selection and sets frame to +0, as does pose of none.
+    ∷ poseFrom5 0 (whole 7) gives (0 ∷ viewOn 0 0 1 (whole 7))
+    ∷ poseFrom5 none (whole 7) gives (0 ∷ cleared)
+    ∷ poseFrom5 1 (whole 7) gives (0 ∷ cleared)
+    ∷ poseFrom5 65534 (whole 7) gives (0 ∷ cleared)
+    -- With nothing active, or preview off, nothing is overridden.
+    ∷ readBy (viewing 0 false true zero') gives number (whole 7)
+    ∷ readBy (viewing 0 false false zero') gives nothing
+    ∷ readBy (viewing none false true zero') gives nothing
+    -- Idle: nothing selected or not playing; only its arguments are checked, nothing moves.
+    ∷ tickOn (still 0) (viewing none true true (whole 5)) (over 1 2) gives (0 ∷ 0 ∷ viewOn none 1 1 (whole 5))
+    ∷ tickOn (still 0) (viewing 0 false true (whole 5)) (over 1 2) gives (0 ∷ 0 ∷ viewOn 0 0 1 (whole 5))
+    ∷ tickOn (still 0) (viewing 0 false true (whole 5)) nan gives (8 ∷ 0 ∷ viewOn 0 0 1 (whole 5))
+    -- The remainder has the dividend's sign and is taken at the frame count or past it alone: a negative dt leaves frames below 0 as they are.
+    ∷ tickOn (still 1) (viewing 0 true true (whole 2)) (below 1 2) gives (0 ∷ 1 ∷ viewOn 0 1 1 (minus 2))
+    ∷ tickOn (still 0) (viewing 0 true true (whole 2)) (below 1 2) gives (0 ∷ 1 ∷ viewOn 0 1 1 (minus 2))
+    ∷ tickOn (still 1) (viewing 0 true true (whole 130)) (below 1 2) gives (0 ∷ 1 ∷ viewOn 0 1 1 (whole 6))
+    ∷ []
 
 unfoldable pub poses : List Pose
 poses =
@@ -247,7 +312,7 @@ poses =
     ∷ readMaterial (colours 16) zero' whiteRed gives level 7
     ∷ readMaterial (colours 20) zero' whiteRed gives level 7
     ∷ readMaterial (colours 24) zero' whiteRed gives level 7
-    ∷ []
+    ∷ shared
 
 unfoldable pub same : List ℕ → List ℕ → Bool
 same [] [] = true

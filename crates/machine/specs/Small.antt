@@ -9,12 +9,15 @@ use Rattle.curve.specs.declared.Key.{Key}
 
 -- ---- numbers
 
--- the f32 nearest to a / b, and the same below zero; a whole number
+-- the f32 nearest to a / b, and the same below zero; whole numbers likewise
 unfoldable pub over : ℕ → ℕ → Float
 over a b = round binary32 false a b
 
+unfoldable pub below : ℕ → ℕ → Float
+below a b = round binary32 true a b
+
 unfoldable pub minus : ℕ → Float
-minus n = round binary32 true n 1
+minus n = below n 1
 
 unfoldable pub whole : ℕ → Float
 whole n = over n 1

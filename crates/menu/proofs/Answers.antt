@@ -1,41 +1,41 @@
 -- What each reading is on each side of its refusal. Assumes nothing.
-use Prim.Native.Nat.{ℕ, _+_, _*_, _<_, _≤_}
-use native.Mathlib.Omega.{arith}
+use Prim.Native.Nat.{ℕ, _<_, _≤_}
 use mathlib.Core.Path.{_≡_, refl, sym, _∙_}
-use mathlib.Core.Bool.{Bool, true, false, not, _&&_, cond, and-false}
+use mathlib.Core.Bool.{Bool, true, false, not, _&&_, cond}
 use mathlib.Core.List.{List, []}
+use native.Mathlib.Omega.{arith}
 use borrow.Author.Tests.{ne-eqb, eq-eqb, eqb-true, ltb-true, lt-ltb, le-ltb, not-true, not-false}
 use lib.Dec.{eqb, ltb}
 use lib.ListN.{length, take, drop}
 use lib.Ieee.{Float}
-use Rattle.laws.specs.Refusals.{unless, passed}
+use Rattle.laws.specs.Rows.{declines, fails, passes, no-rows, held, first-held}
 use Rattle.laws.specs.Tests.{and-1, and-2}
+use Rattle.sheet.specs.Sizes.{animationCount}
+use Rattle.sheet.specs.Rows.{nextName}
+use Rattle.sheet.specs.Sheet.{sheetOk}
+use Rattle.book.specs.Sizes.{paneCount, materialCount}
+use Rattle.book.specs.declared.rows.Srt.{Srt}
+use Rattle.keys.specs.Load.{loaded, loadOf}
 use Rattle.channel.specs.Channel.{channelCount, ofPane, ofMaterial}
 use Rattle.reading.specs.Reading.{marksOf, numbersOf}
 use Rattle.reading.specs.declared.Active.{Active}
 use Rattle.reading.specs.declared.Active.the-variants as active
-use Rattle.player.specs.declared.Player.{Player}
-use Rattle.player.specs.Keys.{Keys, keys}
-use Rattle.player.specs.Player.{none, freshPlayer}
-use Rattle.player.specs.View.{View, viewOf}
-use Rattle.sheet.specs.Sizes.{animationCount}
-use Rattle.sheet.specs.Rows.{nextName}
-use Rattle.sheet.specs.Sheet.{sheetOk}
-use Rattle.keys.specs.Load.{loaded, loadOf}
-use Rattle.resolve.specs.Cascade.{visibles, alphas, influences}
-use Rattle.menu.specs.Calls.{gave, loadedOf, nextNameOf}
-use Rattle.menu.specs.Readings.{cascadeRest, rowsOf, gaveRows, cascadeOf}
-use Rattle.book.specs.Sizes.{paneCount, materialCount}
-use Rattle.book.specs.declared.rows.Srt.{Srt}
 use Rattle.reading.specs.declared.Reading.{Reading}
 use Rattle.reading.specs.declared.Reading.the-variants.{Nothing}
+use Rattle.resolve.specs.Cascade.{visibles, alphas, influences}
 use Rattle.resolve.specs.declared.Transform.{Transform}
+use Rattle.player.specs.declared.Player.{Player}
+use Rattle.player.specs.Keys.{keys}
+use Rattle.player.specs.Player.{none, freshPlayer}
+use Rattle.player.specs.View.{View, viewOf}
+use Rattle.menu.specs.Calls.{gave, loadedOf, nextNameOf}
+use Rattle.menu.specs.Rows.{readingRows, tablesRows, cascadeRows, readAllTable, cascadeTable, nextNameTable}
+use Rattle.menu.specs.Readings.{cascadedOf, gaveCascade, cascadeOf}
 use Rattle.menu.specs.declared.readings.ReadOne.{ReadOne}
 use Rattle.menu.specs.declared.readings.ResolvedPane.{ResolvedPane}
 use Rattle.menu.specs.declared.readings.ResolvedSrt.{ResolvedSrt}
 use Rattle.menu.specs.Readings.{oneOf, paneOf, layerOf, noPane, noLayer}
-use Rattle.menu.specs.Readings.{checkBook, activeIn, tablesRest, tablesOf, gaveTables, readAllOf}
-use Rattle.menu.proofs.Checks.{book-rest}
+use Rattle.menu.specs.Readings.{activeIn, tablesOf, gaveTables, readAllOf}
 
 -- ---- what is active
 module _ (v : View) where
@@ -62,15 +62,15 @@ module _ (v : View) where
       pick b c h k = rw (h, k)
 
 -- ---- the whole reading
-module _ (s b : List ℕ) (p : Player) (fs vs ss : List Float) (marks : List ℕ) (numbers : List Float) (n : ℕ) (e : n ≡ checkBook s b p (keys fs vs ss) (tablesRest b marks numbers)) where
+module _ (s b : List ℕ) (p : Player) (fs vs ss : List Float) (marks : List ℕ) (numbers : List Float) (n : ℕ) (e : n ≡ declines (readAllTable s b p (keys fs vs ss) marks numbers)) where
   pub tables-refused : (n ≡ 0 → ⊥) → gaveTables n marks numbers ≡ readAllOf s b p (keys fs vs ss) marks numbers
   unfolding readAllOf tablesOf
   tables-refused d = rw (← e, ne-eqb n 0 d)
 
   pub tables-long : n ≡ 0 → (length marks ≡ channelCount b) × (length numbers ≡ channelCount b)
-  unfolding tablesRest
+  unfolding readAllTable tablesRows
   tables-long z =
-      let h = passed (eqb (length marks) (channelCount b) && eqb (length numbers) (channelCount b)) 13 0 tt (book-rest s b p (keys fs vs ss) _ e z) .0 in
+      let h = held _ tt (first-held (readingRows s b p (keys fs vs ss)) _ tt (sym e ∙ z) .1) .0 in
       (eqb-true _ _ (and-1 _ (eqb (length numbers) (channelCount b)) h), eqb-true _ _ (and-2 (eqb (length marks) (channelCount b)) _ h))
 
   pub tables-made : (a : Active) (marks′ : List ℕ) (numbers′ : List Float) → n ≡ 0 → a ≡ activeIn (viewOf p) → marks′ ≡ marksOf s b fs vs ss a → numbers′ ≡ numbersOf s b fs vs ss a
@@ -139,15 +139,15 @@ pub one-below : (i : ℕ) {k p : ℕ} → k ≡ p → not (ltb i k) ≡ false �
 one-below i {k} {p} e t = ltb-true i p (one-yes i e t)
 
 -- ---- the cascade
-module _ (s b : List ℕ) (p : Player) (fs vs ss : List Float) (visible : List ℕ) (alpha influence : List Float) (n : ℕ) (e : n ≡ checkBook s b p (keys fs vs ss) (cascadeRest b visible alpha influence)) where
-  pub rows-refused : (n ≡ 0 → ⊥) → gaveRows n visible alpha influence ≡ cascadeOf s b p (keys fs vs ss) visible alpha influence
-  unfolding cascadeOf rowsOf
+module _ (s b : List ℕ) (p : Player) (fs vs ss : List Float) (visible : List ℕ) (alpha influence : List Float) (n : ℕ) (e : n ≡ declines (cascadeTable s b p (keys fs vs ss) visible alpha influence)) where
+  pub rows-refused : (n ≡ 0 → ⊥) → gaveCascade n visible alpha influence ≡ cascadeOf s b p (keys fs vs ss) visible alpha influence
+  unfolding cascadeOf cascadedOf
   rows-refused d = rw (← e, ne-eqb n 0 d)
 
   pub rows-long : n ≡ 0 → (length visible ≡ paneCount b) × ((length alpha ≡ paneCount b) × (length influence ≡ paneCount b))
-  unfolding cascadeRest
+  unfolding cascadeTable cascadeRows
   rows-long z =
-      let h = passed (eqb (length visible) (paneCount b) && eqb (length alpha) (paneCount b) && eqb (length influence) (paneCount b)) 13 0 tt (book-rest s b p (keys fs vs ss) _ e z) .0 in
+      let h = held _ tt (first-held (readingRows s b p (keys fs vs ss)) _ tt (sym e ∙ z) .1) .0 in
       let k = and-1 (eqb (length visible) (paneCount b) && eqb (length alpha) (paneCount b)) (eqb (length influence) (paneCount b)) h in (
         eqb-true _ _ (and-1 (eqb (length visible) (paneCount b)) (eqb (length alpha) (paneCount b)) k),
         (
@@ -157,8 +157,8 @@ module _ (s b : List ℕ) (p : Player) (fs vs ss : List Float) (visible : List �
       )
 
   pub rows-made : (a : Active) (visible′ : List ℕ) (alpha′ influence′ : List Float) → n ≡ 0 → a ≡ activeIn (viewOf p) → visible′ ≡ visibles s b fs vs ss a → alpha′ ≡ alphas s b fs vs ss a → influence′ ≡ influences s b fs vs ss a
-      → gaveRows 0 visible′ alpha′ influence′ ≡ cascadeOf s b p (keys fs vs ss) visible alpha influence
-  unfolding cascadeOf rowsOf
+      → gaveCascade 0 visible′ alpha′ influence′ ≡ cascadeOf s b p (keys fs vs ss) visible alpha influence
+  unfolding cascadeOf cascadedOf
   rows-made a visible′ alpha′ influence′ z h x y w = rw (← e, z, x, y, w, h)
 
 -- ---- names: empty where the call is declined
@@ -179,19 +179,13 @@ load-is s fs vs ss fs′ vs′ ss′ n p e f = rw (← e, f)
 
 -- ---- the next name
 pub next-no-sheet : (s : List ℕ) (a : ℕ) → sheetOk s ≡ false → [] ≡ nextNameOf s a
-unfolding nextNameOf
-next-no-sheet s a e = rw e
+unfolding nextNameOf nextNameTable
+next-no-sheet s a e = name-refused _ (fails 1 _ e) (λ z. omega arith)
 
-pub next-none : (s : List ℕ) (a : ℕ) → ltb a (animationCount s) ≡ false → [] ≡ nextNameOf s a
-unfolding nextNameOf
-next-none s a e = simp (e, and-false)
-
-pub next-is : (s : List ℕ) (a : ℕ) → sheetOk s ≡ true → ltb a (animationCount s) ≡ true → nextName s a ≡ nextNameOf s a
-unfolding nextNameOf
-next-is s a e f = rw (e, f)
+pub next-past : (s : List ℕ) (a k : ℕ) → k ≡ animationCount s → sheetOk s ≡ true → k ≤ a → [] ≡ nextNameOf s a
+unfolding nextNameOf nextNameTable
+next-past s a k e ok l = name-refused _ (passes 1 _ ok (fails 6 _ (le-ltb a (animationCount s) (omega arith)))) (λ z. omega arith)
 
 pub next-at : (s : List ℕ) (a k : ℕ) → k ≡ animationCount s → sheetOk s ≡ true → a < k → nextName s a ≡ nextNameOf s a
-next-at s a k e ok l = next-is s a ok (lt-ltb a (animationCount s) (omega arith))
-
-pub next-past : (s : List ℕ) (a k : ℕ) → k ≡ animationCount s → k ≤ a → [] ≡ nextNameOf s a
-next-past s a k e l = next-none s a (le-ltb a (animationCount s) (omega arith))
+unfolding nextNameOf nextNameTable
+next-at s a k e ok l = name-made (passes 1 _ ok (passes 6 _ (lt-ltb a (animationCount s) (omega arith)) no-rows)) refl

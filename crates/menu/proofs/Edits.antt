@@ -1,14 +1,14 @@
 -- What follows from an edit's refusal, and what `editOf` is on each side of it. Assumes nothing.
-use Prim.Native.Nat.{ℕ, _+_, _<_, _≤_}
-use mathlib.Core.Path.{_≡_, refl, sym, _∙_, ap}
-use mathlib.Core.Bool.{Bool, true, false, not}
-use mathlib.Core.List.{List}
+use Prim.Native.Nat.{ℕ, _+_, _<_}
+use mathlib.Core.Path.{_≡_, sym, _∙_}
+use mathlib.Core.Bool.{true, false, not}
+use mathlib.Core.List.{List, [], _∷_}
 use native.Mathlib.Omega.{arith}
 use borrow.Author.Tests.{ltb-true, ne-eqb}
 use lib.Dec.{eqb, ltb}
 use lib.ListN.{length, set}
 use lib.Ieee.{Float}
-use Rattle.laws.specs.Refusals.{unless, passed}
+use Rattle.laws.specs.Rows.{row, declines, first-held}
 use Rattle.laws.specs.Tests.{and-1, and-2}
 use Rattle.sheet.specs.Sizes.{targetCount, keyCount}
 use Rattle.sheet.specs.Rows.{targetRow}
@@ -16,19 +16,17 @@ use Rattle.sheet.specs.Checked.{Checked, target-keys}
 use Rattle.curve.specs.declared.Key.{Key}
 use Rattle.curve.specs.Keys as curve
 use Rattle.player.specs.declared.Player.{Player}
-use Rattle.player.specs.declared.journal.Entry.{Entry}
 use Rattle.player.specs.declared.edit.Request.{Request}
 use Rattle.player.specs.declared.edit.Spot.{Spot}
-use Rattle.player.specs.Keys.{Keys, keys, keyAt, putKey, Within}
+use Rattle.player.specs.Keys.{keys, keyAt, putKey}
 use Rattle.player.specs.Player.{none, hasKey}
-use Rattle.player.specs.Edit.{place, spotOf, editedAt, edited, keyIn, editRefusal, requestRefusal}
+use Rattle.player.specs.Edit.{place, spotOf, editedAt, edited, keyIn, editRows}
 use Rattle.player.specs.Spot.{Inside, InsideAll}
 use Rattle.player.specs.Counts.{CanEdit}
 use Rattle.player.specs.Undo.{editedPlayer}
-use Rattle.player.specs.Sound.{Sound}
-use Rattle.menu.specs.declared.playing.Played.{Played}
-use Rattle.menu.specs.Calls.{checkKeys, Changed, gave, changed, entryFor, editOf}
-use Rattle.menu.proofs.Checks.{KeysReady, keys-ready, keys-rest}
+use Rattle.menu.specs.Rows.{stateRows, editTable}
+use Rattle.menu.specs.Calls.{gave, entryFor, editOf}
+use Rattle.menu.proofs.Checks.{state-ready}
 
 -- a key that the sheet has, over key arrays as long as the sheet says: it and its neighbours are inside
 pub inside-all : {s : List ℕ} {fs vs ss : List Float} (track key : ℕ) → Checked s → length fs ≡ keyCount s → length vs ≡ keyCount s → length ss ≡ keyCount s
@@ -62,13 +60,14 @@ pub record Allowed (s : List ℕ) (p : Player) (fs vs ss : List Float) (track ke
   pub inside : InsideAll fs vs ss (spotOf s track key)
   pub counts : CanEdit p
 
-module _ (s : List ℕ) (p : Player) (fs vs ss : List Float) (track key : ℕ) (r : Request) (n : ℕ) (e : n ≡ checkKeys s p (keys fs vs ss) (editRefusal s (p .selection) (keys fs vs ss) track key r)) where
+module _ (s : List ℕ) (p : Player) (fs vs ss : List Float) (track key : ℕ) (r : Request) (n : ℕ) (e : n ≡ declines (editTable s p (keys fs vs ss) track key r)) where
   pub allowed : n ≡ 0 → Allowed s p fs vs ss track key
-  unfolding editRefusal
+  unfolding editTable editRows
   allowed z =
-      let w = keys-ready s p (keys fs vs ss) _ e z in
-      let a = passed (not (eqb (p .selection) none)) 6 _ tt (keys-rest s p (keys fs vs ss) _ e z) in
-      let h = in-has s (p .selection) track key (passed (keyIn s (p .selection) track key) 7 _ tt (a .1) .0) in
+      let w = state-ready s p (keys fs vs ss) _ e z in
+      let own = first-held (stateRows s p (keys fs vs ss)) _ tt (sym e ∙ z) .1 in
+      let a = first-held (row 6 (not (eqb (p .selection) none)) ∷ row 7 (keyIn s (p .selection) track key) ∷ []) _ tt own .0 in
+      let h = in-has s (p .selection) track key (a .1 .0) in
       let c = w .player .counts in
       record {
         sheet = w .sheet;

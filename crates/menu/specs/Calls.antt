@@ -1,60 +1,25 @@
--- What each call gives (document 01, "What a call declines"): its checks by rising number, each only where the call takes that thing, and its step
--- where none declines. Definitions only.
+-- What each call gives (document 01, "Playing and editing" and "What a call declines"): the number of the first row of its list that doesn't hold
+-- (specs/Rows), and its step where each does. Definitions only.
 use Prim.Native.Nat.{ℕ}
-use mathlib.Core.Bool.{Bool, true, false, not, _&&_, _||_, cond}
+use mathlib.Core.Bool.{Bool, true, false, cond}
 use mathlib.Core.List.{List, []}
-use lib.Dec.{eqb, ltb}
-use lib.ListN.{length}
+use lib.Dec.{eqb}
 use lib.Ieee.{Float}
-use Rattle.laws.specs.Refusals.{unless}
-use Rattle.float.specs.Numbers.{finite}
-use Rattle.sheet.specs.Sizes.{animationCount, keyCount}
-use Rattle.sheet.specs.Sheet.{sheetOk}
+use Rattle.laws.specs.Rows.{declines}
 use Rattle.player.specs.declared.Player.{Player}
-use Rattle.player.specs.declared.Tick.{Tick}
 use Rattle.player.specs.declared.Tick.the-variants.{Idle}
 use Rattle.player.specs.declared.journal.Entry.{Entry}
 use Rattle.sheet.specs.Rows.{nextName}
 use Rattle.keys.specs.Load.{loadOf}
 use Rattle.player.specs.Keys.{Keys, keys, keyAt, putKey}
-use Rattle.player.specs.Player.{none, freshPlayer, playerOk}
-use Rattle.player.specs.View.{View, viewOf, withView, playView, poseView, ticks, tickSum, tickFrame, tickView, tickAnswer, pickTick}
+use Rattle.player.specs.Player.{freshPlayer}
+use Rattle.player.specs.View.{viewOf, withView, playView, poseView, tickView, tickAnswer, pickTick}
 use Rattle.player.specs.declared.edit.Request.{Request}
-use Rattle.player.specs.Edit.{Edit, place, edited, madeEdit, editRefusal}
-use Rattle.player.specs.Undo.{keysOkOf, undoRefusal, redoRefusal, undoEntry, redoEntry, undoneKeys, redoneKeys, undonePlayer, redonePlayer, editedPlayer}
+use Rattle.player.specs.Edit.{place, edited}
+use Rattle.player.specs.Undo.{undoEntry, redoEntry, undoneKeys, redoneKeys, undonePlayer, redonePlayer, editedPlayer}
 use Rattle.menu.specs.declared.playing.Played.{Played}
 use Rattle.menu.specs.declared.playing.Ticked.{Ticked}
-
--- each key array is n long
-abbrev pub lengthsAre : ℕ → Keys → Bool
-lengthsAre n ks = eqb (length (ks .frames)) n && eqb (length (ks .values)) n && eqb (length (ks .slopes)) n
-
--- row 3: each key array is K long
-unfoldable pub lengthsOk : List ℕ → Keys → Bool
-lengthsOk s ks = lengthsAre (keyCount s) ks
-
--- a call that takes sheet and player
-unfoldable pub checkPlayer : List ℕ → Player → ℕ → ℕ
-checkPlayer s p rest = unless (sheetOk s) 1 (unless (playerOk s p) 5 rest)
-
--- a call that also takes keys
-unfoldable pub checkKeys : List ℕ → Player → Keys → ℕ → ℕ
-checkKeys s p ks rest = unless (sheetOk s) 1 (unless (lengthsOk s ks) 3 (unless (keysOkOf s ks) 4 (unless (playerOk s p) 5 rest)))
-
--- row 6 of play: from A up, none apart
-unfoldable pub playRest : List ℕ → ℕ → ℕ
-playRest s a = unless (eqb a none || ltb a (animationCount s)) 6 0
-
--- row 8 of pose
-unfoldable pub poseRest : Float → ℕ
-poseRest x = unless (finite x) 8 0
-
--- row 8 of tick: its arguments, and in a playing tick the sum and the frame that it would leave
-unfoldable pub tickMoves : List ℕ → View → Float → Float → Bool
-tickMoves s v dt fps = not (ticks v) || finite (tickSum v dt fps) && finite (tickFrame s (v .selection) (tickSum v dt fps))
-
-unfoldable pub tickRest : List ℕ → View → Float → Float → ℕ
-tickRest s v dt fps = unless (finite dt && finite fps) 8 (unless (tickMoves s v dt fps) 8 0)
+use Rattle.menu.specs.Rows.{playTable, poseTable, tickTable, editTable, undoTable, redoTable, nextNameTable}
 
 -- the first where the number is 0, and else the second
 abbrev pub pickPlayer : Bool → Player → Player → Player
@@ -67,17 +32,17 @@ pickKeys false p q = q
 
 unfoldable pub playOf : List ℕ → Player → ℕ → Played
 playOf s p a =
-    let n = checkPlayer s p (playRest s a) in
+    let n = declines (playTable s p a) in
     record { refusal = n; player = pickPlayer (eqb n 0) (withView p (playView a (viewOf p))) p }
 
 unfoldable pub poseOf : List ℕ → Player → ℕ → Float → Played
 poseOf s p a x =
-    let n = checkPlayer s p (poseRest x) in
+    let n = declines (poseTable s p x) in
     record { refusal = n; player = pickPlayer (eqb n 0) (withView p (poseView s a x)) p }
 
 unfoldable pub tickOf : List ℕ → Player → Float → Float → Ticked
 tickOf s p dt fps =
-    let n = checkPlayer s p (tickRest s (viewOf p) dt fps) in
+    let n = declines (tickTable s p dt fps) in
     record {
       refusal = n;
       answer = pickTick (eqb n 0) (tickAnswer s dt fps (viewOf p)) Idle;
@@ -103,7 +68,7 @@ entryFor s ks track key r = record { track = track; key = key; before = keyAt ks
 
 unfoldable pub editOf : List ℕ → Player → Keys → ℕ → ℕ → Request → Changed
 editOf s p ks track key r =
-    changed (checkKeys s p ks (editRefusal s (p .selection) ks track key r)) p ks
+    changed (declines (editTable s p ks track key r)) p ks
     (editedPlayer p (entryFor s ks track key r))
     (putKey ks (place s track key) (edited s ks track key r))
 
@@ -113,12 +78,12 @@ loadedOf s ks =
     let l = loadOf s (ks .frames) (ks .values) (ks .slopes) in
     record { refusal = l .refusal; player = freshPlayer; keys = keys (l .frames) (l .values) (l .slopes) }
 
--- the name that follows an animation: empty where the sheet is declined, or has no such animation
+-- the name that follows an animation: empty where the call is declined
 unfoldable pub nextNameOf : List ℕ → ℕ → List ℕ
-nextNameOf s a = cond (sheetOk s && ltb a (animationCount s)) (nextName s a) []
+nextNameOf s a = cond (eqb (declines (nextNameTable s a)) 0) (nextName s a) []
 
 unfoldable pub undoOf : List ℕ → Player → Keys → Changed
-undoOf s p ks = changed (checkKeys s p ks (undoRefusal s p ks)) p ks (undonePlayer p) (undoneKeys s ks (undoEntry p))
+undoOf s p ks = changed (declines (undoTable s p ks)) p ks (undonePlayer p) (undoneKeys s ks (undoEntry p))
 
 unfoldable pub redoOf : List ℕ → Player → Keys → Changed
-redoOf s p ks = changed (checkKeys s p ks (redoRefusal s p ks)) p ks (redonePlayer p) (redoneKeys s ks (redoEntry p))
+redoOf s p ks = changed (declines (redoTable s p ks)) p ks (redonePlayer p) (redoneKeys s ks (redoEntry p))

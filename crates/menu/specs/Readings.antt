@@ -1,18 +1,14 @@
--- What each reading gives (document 01, "Channels" and "What a call declines"): refusals 1 to 5, 7 and 13 by rising number, and the answer where
--- none declines. What is answered depends on the player only by its view. Definitions only.
+-- What each reading gives (document 01, "Channels" and "What a call declines"): the number of the first row of its list that doesn't hold
+-- (specs/Rows), and the answer where each does. What is answered depends on the player only by its view. Definitions only.
 use Prim.Native.Nat.{ℕ}
 use mathlib.Core.Bool.{Bool, true, false, not, _&&_, cond}
 use mathlib.Core.List.{List, []}
-use lib.Dec.{eqb, ltb}
-use lib.ListN.{length}
+use lib.Dec.{eqb}
 use lib.Ieee.{Float}
-use Rattle.laws.specs.Refusals.{unless}
+use Rattle.laws.specs.Rows.{declines}
 use Rattle.float.specs.Numbers.{zero'}
-use Rattle.sheet.specs.Sheet.{sheetOk}
-use Rattle.book.specs.Sizes.{paneCount, materialCount}
-use Rattle.book.specs.Book.{bookOk}
 use Rattle.book.specs.declared.rows.Srt.{Srt}
-use Rattle.channel.specs.Channel.{paneChannels, materialChannels, channelCount, ofPane, ofMaterial}
+use Rattle.channel.specs.Channel.{ofPane, ofMaterial}
 use Rattle.reading.specs.Reading.{reading, marksOf, numbersOf}
 use Rattle.reading.specs.declared.Active.{Active}
 use Rattle.reading.specs.declared.Active.the-variants as active
@@ -23,46 +19,16 @@ use Rattle.resolve.specs.Cascade.{visibles, alphas, influences}
 use Rattle.resolve.specs.declared.Transform.{Transform}
 use Rattle.player.specs.declared.Player.{Player}
 use Rattle.player.specs.Keys.{Keys}
-use Rattle.player.specs.Player.{none, playerOk}
+use Rattle.player.specs.Player.{none}
 use Rattle.player.specs.View.{View, viewOf}
-use Rattle.player.specs.Undo.{keysOkOf}
-use Rattle.menu.specs.Calls.{lengthsOk}
+use Rattle.menu.specs.Rows.{readPaneTable, readMaterialTable, readAllTable, resolvePaneTable, resolveSrtTable, textureNameTable, cascadeTable}
 use Rattle.menu.specs.declared.readings.ReadOne.{ReadOne}
 use Rattle.menu.specs.declared.readings.ResolvedPane.{ResolvedPane}
 use Rattle.menu.specs.declared.readings.ResolvedSrt.{ResolvedSrt}
 
--- a call that takes sheet, book, keys and player
-unfoldable pub checkBook : List ℕ → List ℕ → Player → Keys → ℕ → ℕ
-checkBook s b p ks rest =
-    unless (sheetOk s) 1 (unless (bookOk b) 2 (unless (lengthsOk s ks) 3 (unless (keysOkOf s ks) 4 (unless (playerOk s p) 5 rest))))
-
 -- With nothing selected, or preview off, nothing is active.
 unfoldable pub activeIn : View → Active
 activeIn v = cond (v .preview && not (eqb (v .selection) none)) (active.At (v .selection) (v .frame)) active.Nothing
-
--- ---- row 7: no such pane, material, channel, layer or slot
-
-unfoldable pub paneRest : List ℕ → ℕ → ℕ
-paneRest b pane = unless (ltb pane (paneCount b)) 7 0
-
-unfoldable pub paneChannelRest : List ℕ → ℕ → ℕ → ℕ
-paneChannelRest b pane c = unless (ltb pane (paneCount b) && ltb c paneChannels) 7 0
-
-unfoldable pub materialChannelRest : List ℕ → ℕ → ℕ → ℕ
-materialChannelRest b m c = unless (ltb m (materialCount b) && ltb c materialChannels) 7 0
-
--- a material's layer, and its texture slot: three of each
-unfoldable pub layerRest : List ℕ → ℕ → ℕ → ℕ
-layerRest b m layer = unless (ltb m (materialCount b) && ltb layer 3) 7 0
-
--- ---- row 13: outputs not exactly as long
-
-unfoldable pub tablesRest : List ℕ → List ℕ → List Float → ℕ
-tablesRest b marks numbers = unless (eqb (length marks) (channelCount b) && eqb (length numbers) (channelCount b)) 13 0
-
-unfoldable pub cascadeRest : List ℕ → List ℕ → List Float → List Float → ℕ
-cascadeRest b visible alpha influence =
-    unless (eqb (length visible) (paneCount b) && eqb (length alpha) (paneCount b) && eqb (length influence) (paneCount b)) 13 0
 
 -- ---- the answers, by the refusal n. Refused numbers are +0, and what was lent is as it was.
 
@@ -115,17 +81,17 @@ gaveTables n marks numbers = record { refusal = n; marks = marks; numbers = numb
 unfoldable pub tablesOf : ℕ → List ℕ → List Float → List ℕ → List Float → Tables
 tablesOf n made made′ marks numbers = record { refusal = n; marks = cond (eqb n 0) made marks; numbers = cond (eqb n 0) made′ numbers }
 
-pub record Rows : Type 0 where
+pub record Cascaded : Type 0 where
   pub refusal : ℕ
   pub visible : List ℕ
   pub alpha : List Float
   pub influence : List Float
 
-abbrev pub gaveRows : ℕ → List ℕ → List Float → List Float → Rows
-gaveRows n visible alpha influence = record { refusal = n; visible = visible; alpha = alpha; influence = influence }
+abbrev pub gaveCascade : ℕ → List ℕ → List Float → List Float → Cascaded
+gaveCascade n visible alpha influence = record { refusal = n; visible = visible; alpha = alpha; influence = influence }
 
-unfoldable pub rowsOf : ℕ → List ℕ → List Float → List Float → List ℕ → List Float → List Float → Rows
-rowsOf n made made′ made″ visible alpha influence =
+unfoldable pub cascadedOf : ℕ → List ℕ → List Float → List Float → List ℕ → List Float → List Float → Cascaded
+cascadedOf n made made′ made″ visible alpha influence =
     record { refusal = n; visible = cond (eqb n 0) made visible; alpha = cond (eqb n 0) made′ alpha; influence = cond (eqb n 0) made″ influence }
 
 -- ---- the readings of a view over keys, each with the refusal n
@@ -152,30 +118,30 @@ module _ (s b : List ℕ) (v : View) (ks : Keys) (n : ℕ) where
   abbrev pub textureNameIn : ℕ → ℕ → List ℕ
   textureNameIn m slot = cond (eqb n 0) (textureOf s b (ks .frames) (ks .values) (ks .slopes) (activeIn v) m slot) []
 
-  abbrev pub cascadeIn : List ℕ → List Float → List Float → Rows
+  abbrev pub cascadeIn : List ℕ → List Float → List Float → Cascaded
   cascadeIn visible alpha influence =
-      rowsOf n (visibles s b (ks .frames) (ks .values) (ks .slopes) (activeIn v)) (alphas s b (ks .frames) (ks .values) (ks .slopes) (activeIn v))
+      cascadedOf n (visibles s b (ks .frames) (ks .values) (ks .slopes) (activeIn v)) (alphas s b (ks .frames) (ks .values) (ks .slopes) (activeIn v))
       (influences s b (ks .frames) (ks .values) (ks .slopes) (activeIn v)) visible alpha influence
 
 -- ---- the calls
 module _ (s b : List ℕ) (p : Player) (ks : Keys) where
   unfoldable pub readPaneOf : ℕ → ℕ → ReadOne
-  readPaneOf pane c = readPaneIn s b (viewOf p) ks (checkBook s b p ks (paneChannelRest b pane c)) pane c
+  readPaneOf pane c = readPaneIn s b (viewOf p) ks (declines (readPaneTable s b p ks pane c)) pane c
 
   unfoldable pub readMaterialOf : ℕ → ℕ → ReadOne
-  readMaterialOf m c = readMaterialIn s b (viewOf p) ks (checkBook s b p ks (materialChannelRest b m c)) m c
+  readMaterialOf m c = readMaterialIn s b (viewOf p) ks (declines (readMaterialTable s b p ks m c)) m c
 
   unfoldable pub readAllOf : List ℕ → List Float → Tables
-  readAllOf marks numbers = readAllIn s b (viewOf p) ks (checkBook s b p ks (tablesRest b marks numbers)) marks numbers
+  readAllOf marks numbers = readAllIn s b (viewOf p) ks (declines (readAllTable s b p ks marks numbers)) marks numbers
 
   unfoldable pub resolvePaneOf : ℕ → ResolvedPane
-  resolvePaneOf pane = resolvePaneIn s b (viewOf p) ks (checkBook s b p ks (paneRest b pane)) pane
+  resolvePaneOf pane = resolvePaneIn s b (viewOf p) ks (declines (resolvePaneTable s b p ks pane)) pane
 
   unfoldable pub resolveSrtOf : ℕ → ℕ → ResolvedSrt
-  resolveSrtOf m layer = resolveSrtIn s b (viewOf p) ks (checkBook s b p ks (layerRest b m layer)) m layer
+  resolveSrtOf m layer = resolveSrtIn s b (viewOf p) ks (declines (resolveSrtTable s b p ks m layer)) m layer
 
   unfoldable pub textureNameOf : ℕ → ℕ → List ℕ
-  textureNameOf m slot = textureNameIn s b (viewOf p) ks (checkBook s b p ks (layerRest b m slot)) m slot
+  textureNameOf m slot = textureNameIn s b (viewOf p) ks (declines (textureNameTable s b p ks m slot)) m slot
 
-  unfoldable pub cascadeOf : List ℕ → List Float → List Float → Rows
-  cascadeOf visible alpha influence = cascadeIn s b (viewOf p) ks (checkBook s b p ks (cascadeRest b visible alpha influence)) visible alpha influence
+  unfoldable pub cascadeOf : List ℕ → List Float → List Float → Cascaded
+  cascadeOf visible alpha influence = cascadeIn s b (viewOf p) ks (declines (cascadeTable s b p ks visible alpha influence)) visible alpha influence

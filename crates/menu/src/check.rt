@@ -7,13 +7,13 @@ use laws::refusal::KEY_RULES;
 use laws::refusal::SHEET_LAYOUT;
 use player::Player;
 ghost use mathlib.Core.Path.{_≡_};
+ghost use Rattle.laws.specs.Rows.{declines};
 ghost use Rattle.player.specs.Keys.{keys};
-ghost use Rattle.menu.specs.Calls.{checkPlayer, lengthsAre, checkKeys};
-ghost use Rattle.menu.specs.Readings.{checkBook};
+ghost use Rattle.menu.specs.Rows.{lengthsAre, playerRows, keysRows, stateRows, bookRows, readingRows};
 
 // Rows 1 and 5, and 0 where neither declines.
 pub fn check_player(p: Player, s: &[u8]) -> u8
-    ensures { λ r. ⌜ r ≡ checkPlayer (now (s .entry)) p 0 ⌝ }
+    ensures { λ r. ⌜ r ≡ declines (playerRows (now (s .entry)) p) ⌝ }
 {
     if !sheet::sheet_ok(s) {
         return SHEET_LAYOUT;
@@ -31,9 +31,9 @@ fn lengths_ok(n: usize, frames: &[f32], values: &[f32], slopes: &[f32]) -> bool
     (frames.len() == n) & (values.len() == n) & (slopes.len() == n)
 }
 
-// Rows 1, 3, 4 and 5, and 0 where none declines.
-pub fn check_keys(p: Player, s: &[u8], frames: &[f32], values: &[f32], slopes: &[f32]) -> u8
-    ensures { λ r. ⌜ r ≡ checkKeys (now (s .entry)) p (keys (now (frames .entry)) (now (values .entry)) (now (slopes .entry))) 0 ⌝ }
+// Rows 1, 3 and 4: sheet and keys, with no player.
+pub fn check_keys(s: &[u8], frames: &[f32], values: &[f32], slopes: &[f32]) -> u8
+    ensures { λ r. ⌜ r ≡ declines (keysRows (now (s .entry)) (keys (now (frames .entry)) (now (values .entry)) (now (slopes .entry)))) ⌝ }
 {
     if !sheet::sheet_ok(s) {
         return SHEET_LAYOUT;
@@ -44,22 +44,26 @@ pub fn check_keys(p: Player, s: &[u8], frames: &[f32], values: &[f32], slopes: &
     if !keys::keys_ok(s, frames, values, slopes) {
         return KEY_RULES;
     }
+    ACCEPTED
+}
+
+// Those, and row 5.
+pub fn check_state(p: Player, s: &[u8], frames: &[f32], values: &[f32], slopes: &[f32]) -> u8
+    ensures { λ r. ⌜ r ≡ declines (stateRows (now (s .entry)) p (keys (now (frames .entry)) (now (values .entry)) (now (slopes .entry)))) ⌝ }
+{
+    let n = check_keys(s, frames, values, slopes);
+    if n != ACCEPTED {
+        return n;
+    }
     if !p.ok(s) {
         return BROKEN_STATE;
     }
     ACCEPTED
 }
 
-// Rows 1 to 5, and 0 where none declines.
-pub fn check_book(
-    p: Player,
-    s: &[u8],
-    b: &[u8],
-    frames: &[f32],
-    values: &[f32],
-    slopes: &[f32],
-) -> u8
-    ensures { λ r. ⌜ r ≡ checkBook (now (s .entry)) (now (b .entry)) p (keys (now (frames .entry)) (now (values .entry)) (now (slopes .entry))) 0 ⌝ }
+// Rows 1 to 4: sheet, book and keys, with no player.
+pub fn check_book(s: &[u8], b: &[u8], frames: &[f32], values: &[f32], slopes: &[f32]) -> u8
+    ensures { λ r. ⌜ r ≡ declines (bookRows (now (s .entry)) (now (b .entry)) (keys (now (frames .entry)) (now (values .entry)) (now (slopes .entry)))) ⌝ }
 {
     if !sheet::sheet_ok(s) {
         return SHEET_LAYOUT;
@@ -72,6 +76,24 @@ pub fn check_book(
     }
     if !keys::keys_ok(s, frames, values, slopes) {
         return KEY_RULES;
+    }
+    ACCEPTED
+}
+
+// Those, and row 5.
+pub fn check_reading(
+    p: Player,
+    s: &[u8],
+    b: &[u8],
+    frames: &[f32],
+    values: &[f32],
+    slopes: &[f32],
+) -> u8
+    ensures { λ r. ⌜ r ≡ declines (readingRows (now (s .entry)) (now (b .entry)) p (keys (now (frames .entry)) (now (values .entry)) (now (slopes .entry)))) ⌝ }
+{
+    let n = check_book(s, b, frames, values, slopes);
+    if n != ACCEPTED {
+        return n;
     }
     if !p.ok(s) {
         return BROKEN_STATE;

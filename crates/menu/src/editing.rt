@@ -1,5 +1,5 @@
 // The edits of one key.
-use crate::check::check_keys;
+use crate::check::check_state;
 use crate::playing::Played;
 use laws::refusal::ACCEPTED;
 use laws::refusal::NO_ANIMATION;
@@ -13,9 +13,10 @@ use player::edit::request_refusal;
 use player::edit::spot_of;
 use player::journal::Entry;
 ghost use mathlib.Core.Path.{_≡_};
+ghost use Rattle.laws.specs.Rows.{declines};
 ghost use Rattle.player.specs.Keys.{keys};
-ghost use Rattle.player.specs.Edit.{editRefusal};
-ghost use Rattle.menu.specs.Calls.{checkKeys, gave, editOf};
+ghost use Rattle.menu.specs.Rows.{editTable};
+ghost use Rattle.menu.specs.Calls.{gave, editOf};
 
 fn edit_refusal(
     p: Player,
@@ -27,9 +28,9 @@ fn edit_refusal(
     key: u16,
     r: Request,
 ) -> u8
-    ensures { λ n. ⌜ n ≡ checkKeys (now (s .entry)) p (keys (now (frames .entry)) (now (values .entry)) (now (slopes .entry))) (editRefusal (now (s .entry)) (p .selection) (keys (now (frames .entry)) (now (values .entry)) (now (slopes .entry))) track key r) ⌝ }
+    ensures { λ n. ⌜ n ≡ declines (editTable (now (s .entry)) p (keys (now (frames .entry)) (now (values .entry)) (now (slopes .entry))) track key r) ⌝ }
 {
-    let n = check_keys(p, s, frames, values, slopes);
+    let n = check_state(p, s, frames, values, slopes);
     if n != ACCEPTED {
         return n;
     }

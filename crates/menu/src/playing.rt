@@ -8,8 +8,9 @@ use player::Player;
 use player::Tick;
 use player::playing::tick_frame;
 ghost use mathlib.Core.Path.{_≡_};
-ghost use Rattle.player.specs.View.{viewOf};
-ghost use Rattle.menu.specs.Calls.{checkPlayer, playRest, poseRest, tickRest, playOf, poseOf, tickOf};
+ghost use Rattle.laws.specs.Rows.{declines};
+ghost use Rattle.menu.specs.Rows.{playTable, poseTable, tickTable};
+ghost use Rattle.menu.specs.Calls.{playOf, poseOf, tickOf};
 
 pub struct Played {
     pub refusal: u8,
@@ -23,7 +24,7 @@ pub struct Ticked {
 }
 
 fn play_refusal(p: Player, s: &[u8], animation: u16) -> u8
-    ensures { λ r. ⌜ r ≡ checkPlayer (now (s .entry)) p (playRest (now (s .entry)) animation) ⌝ }
+    ensures { λ r. ⌜ r ≡ declines (playTable (now (s .entry)) p animation) ⌝ }
 {
     let n = check_player(p, s);
     if n != ACCEPTED {
@@ -53,7 +54,7 @@ pub fn play(p: Player, s: &[u8], animation: u16) -> Played
 }
 
 fn pose_refusal(p: Player, s: &[u8], frame: f32) -> u8
-    ensures { λ r. ⌜ r ≡ checkPlayer (now (s .entry)) p (poseRest frame) ⌝ }
+    ensures { λ r. ⌜ r ≡ declines (poseTable (now (s .entry)) p frame) ⌝ }
 {
     let n = check_player(p, s);
     if n != ACCEPTED {
@@ -84,7 +85,7 @@ pub fn pose(p: Player, s: &[u8], animation: u16, frame: f32) -> Played
 
 // The numbers of a playing tick are the sum, and the frame that it would leave; an idle tick has neither.
 fn tick_refusal(p: Player, s: &[u8], dt: f32, fps: f32) -> u8
-    ensures { λ r. ⌜ r ≡ checkPlayer (now (s .entry)) p (tickRest (now (s .entry)) (viewOf p) dt fps) ⌝ }
+    ensures { λ r. ⌜ r ≡ declines (tickTable (now (s .entry)) p dt fps) ⌝ }
 {
     let n = check_player(p, s);
     if n != ACCEPTED {

@@ -1,5 +1,5 @@
 // The readings: one channel, all channels, resolving, a resolved texture name, and the cascade.
-use crate::check::check_book;
+use crate::check::check_reading;
 use book::Srt;
 use laws::refusal::ACCEPTED;
 use laws::refusal::OUTPUT_LENGTH;
@@ -9,9 +9,11 @@ use reading::Active;
 use reading::Reading;
 use resolve::Transform;
 ghost use mathlib.Core.Path.{_≡_};
+ghost use Rattle.laws.specs.Rows.{declines};
 ghost use Rattle.player.specs.Keys.{keys};
 ghost use Rattle.player.specs.View.{viewOf};
-ghost use Rattle.menu.specs.Readings.{checkBook, activeIn, tablesRest, gaveTables, readAllOf};
+ghost use Rattle.menu.specs.Rows.{readAllTable};
+ghost use Rattle.menu.specs.Readings.{activeIn, gaveTables, readAllOf};
 
 // One channel's reading.
 pub struct ReadOne {
@@ -56,9 +58,9 @@ fn read_all_refusal(
     marks: &[u8],
     numbers: &[f32],
 ) -> u8
-    ensures { λ n. ⌜ n ≡ checkBook (now (s .entry)) (now (b .entry)) p (keys (now (frames .entry)) (now (values .entry)) (now (slopes .entry))) (tablesRest (now (b .entry)) (now (marks .entry)) (now (numbers .entry))) ⌝ }
+    ensures { λ n. ⌜ n ≡ declines (readAllTable (now (s .entry)) (now (b .entry)) p (keys (now (frames .entry)) (now (values .entry)) (now (slopes .entry))) (now (marks .entry)) (now (numbers .entry))) ⌝ }
 {
-    let n = check_book(p, s, b, frames, values, slopes);
+    let n = check_reading(p, s, b, frames, values, slopes);
     if n != ACCEPTED {
         return n;
     }

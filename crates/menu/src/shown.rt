@@ -1,12 +1,14 @@
 // A material slot's resolved texture name, and the cascade over the panes.
-use crate::check::check_book;
+use crate::check::check_reading;
 use crate::readings::active_in;
 use laws::refusal::ACCEPTED;
 use laws::refusal::OUTPUT_LENGTH;
 use player::Player;
 ghost use mathlib.Core.Path.{_≡_};
+ghost use Rattle.laws.specs.Rows.{declines};
 ghost use Rattle.player.specs.Keys.{keys};
-ghost use Rattle.menu.specs.Readings.{checkBook, cascadeRest, gaveRows, textureNameOf, cascadeOf};
+ghost use Rattle.menu.specs.Rows.{cascadeTable};
+ghost use Rattle.menu.specs.Readings.{gaveCascade, textureNameOf, cascadeOf};
 
 // The 24-byte name of a material's texture slot: the sheet's where it is overridden, else the book's; empty where the call is declined.
 pub fn texture_name<'a>(
@@ -21,8 +23,8 @@ pub fn texture_name<'a>(
 ) -> &'a [u8]
     ensures { λ r. ⌜ now r ≡ textureNameOf (now (s .entry)) (now (b .entry)) p (keys (now (frames .entry)) (now (values .entry)) (now (slopes .entry))) material slot ⌝ }
 {
-    let n = check_book(p, s, b, frames, values, slopes);
-    if n != 0 {
+    let n = check_reading(p, s, b, frames, values, slopes);
+    if n != ACCEPTED {
         return &s[0..0];
     }
     let i = material as usize;
@@ -44,9 +46,9 @@ fn cascade_refusal(
     alpha: &[f32],
     influence: &[f32],
 ) -> u8
-    ensures { λ n. ⌜ n ≡ checkBook (now (s .entry)) (now (b .entry)) p (keys (now (frames .entry)) (now (values .entry)) (now (slopes .entry))) (cascadeRest (now (b .entry)) (now (visible .entry)) (now (alpha .entry)) (now (influence .entry))) ⌝ }
+    ensures { λ n. ⌜ n ≡ declines (cascadeTable (now (s .entry)) (now (b .entry)) p (keys (now (frames .entry)) (now (values .entry)) (now (slopes .entry))) (now (visible .entry)) (now (alpha .entry)) (now (influence .entry))) ⌝ }
 {
-    let n = check_book(p, s, b, frames, values, slopes);
+    let n = check_reading(p, s, b, frames, values, slopes);
     if n != ACCEPTED {
         return n;
     }
@@ -69,7 +71,7 @@ pub fn cascade(
     alpha: &mut [f32],
     influence: &mut [f32],
 ) -> u8
-    ensures { λ n. ⌜ gaveRows n (now (visible .exit)) (now (alpha .exit)) (now (influence .exit)) ≡ cascadeOf (now (s .entry)) (now (b .entry)) p (keys (now (frames .entry)) (now (values .entry)) (now (slopes .entry))) (now (visible .entry)) (now (alpha .entry)) (now (influence .entry)) ⌝ }
+    ensures { λ n. ⌜ gaveCascade n (now (visible .exit)) (now (alpha .exit)) (now (influence .exit)) ≡ cascadeOf (now (s .entry)) (now (b .entry)) p (keys (now (frames .entry)) (now (values .entry)) (now (slopes .entry))) (now (visible .entry)) (now (alpha .entry)) (now (influence .entry)) ⌝ }
 {
     let n = cascade_refusal(p, s, b, frames, values, slopes, visible, alpha, influence);
     if n != ACCEPTED {

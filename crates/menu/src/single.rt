@@ -1,5 +1,5 @@
 // Readings of one thing: a channel of a pane or of a material, a pane resolved, a material's layer resolved.
-use crate::check::check_book;
+use crate::check::check_reading;
 use crate::readings::ReadOne;
 use crate::readings::ResolvedPane;
 use crate::readings::ResolvedSrt;
@@ -31,7 +31,7 @@ pub fn read_pane(
 ) -> ReadOne
     ensures { λ r. ⌜ r ≡ readPaneOf (now (s .entry)) (now (b .entry)) p (keys (now (frames .entry)) (now (values .entry)) (now (slopes .entry))) pane channel ⌝ }
 {
-    let n = check_book(p, s, b, frames, values, slopes);
+    let n = check_reading(p, s, b, frames, values, slopes);
     if n != ACCEPTED {
         return ReadOne {
             refusal: n,
@@ -66,7 +66,7 @@ pub fn read_material(
 ) -> ReadOne
     ensures { λ r. ⌜ r ≡ readMaterialOf (now (s .entry)) (now (b .entry)) p (keys (now (frames .entry)) (now (values .entry)) (now (slopes .entry))) material channel ⌝ }
 {
-    let n = check_book(p, s, b, frames, values, slopes);
+    let n = check_reading(p, s, b, frames, values, slopes);
     if n != ACCEPTED {
         return ReadOne {
             refusal: n,
@@ -128,7 +128,7 @@ pub fn resolve_pane(
 ) -> ResolvedPane
     ensures { λ r. ⌜ r ≡ resolvePaneOf (now (s .entry)) (now (b .entry)) p (keys (now (frames .entry)) (now (values .entry)) (now (slopes .entry))) pane ⌝ }
 {
-    let n = check_book(p, s, b, frames, values, slopes);
+    let n = check_reading(p, s, b, frames, values, slopes);
     if n != ACCEPTED {
         return no_pane(n);
     }
@@ -173,7 +173,7 @@ pub fn resolve_srt(
 ) -> ResolvedSrt
     ensures { λ r. ⌜ r ≡ resolveSrtOf (now (s .entry)) (now (b .entry)) p (keys (now (frames .entry)) (now (values .entry)) (now (slopes .entry))) material layer ⌝ }
 {
-    let n = check_book(p, s, b, frames, values, slopes);
+    let n = check_reading(p, s, b, frames, values, slopes);
     if n != ACCEPTED {
         return no_srt(n);
     }

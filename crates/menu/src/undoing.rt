@@ -1,5 +1,5 @@
 // Undo and redo.
-use crate::check::check_keys;
+use crate::check::check_state;
 use crate::playing::Played;
 use laws::refusal::ACCEPTED;
 use laws::refusal::BROKEN_STATE;
@@ -9,14 +9,15 @@ use player::edit::put_key;
 use player::edit::spot_of;
 use player::fits::returns_ok;
 ghost use mathlib.Core.Path.{_≡_};
+ghost use Rattle.laws.specs.Rows.{declines};
 ghost use Rattle.player.specs.Keys.{keys};
-ghost use Rattle.player.specs.Undo.{undoRefusal, redoRefusal};
-ghost use Rattle.menu.specs.Calls.{checkKeys, gave, undoOf, redoOf};
+ghost use Rattle.menu.specs.Rows.{undoTable, redoTable};
+ghost use Rattle.menu.specs.Calls.{gave, undoOf, redoOf};
 
 fn undo_refusal(p: Player, s: &[u8], frames: &[f32], values: &[f32], slopes: &[f32]) -> u8
-    ensures { λ n. ⌜ n ≡ checkKeys (now (s .entry)) p (keys (now (frames .entry)) (now (values .entry)) (now (slopes .entry))) (undoRefusal (now (s .entry)) p (keys (now (frames .entry)) (now (values .entry)) (now (slopes .entry)))) ⌝ }
+    ensures { λ n. ⌜ n ≡ declines (undoTable (now (s .entry)) p (keys (now (frames .entry)) (now (values .entry)) (now (slopes .entry)))) ⌝ }
 {
-    let n = check_keys(p, s, frames, values, slopes);
+    let n = check_state(p, s, frames, values, slopes);
     if n != ACCEPTED {
         return n;
     }
@@ -57,9 +58,9 @@ pub fn undo(
 }
 
 fn redo_refusal(p: Player, s: &[u8], frames: &[f32], values: &[f32], slopes: &[f32]) -> u8
-    ensures { λ n. ⌜ n ≡ checkKeys (now (s .entry)) p (keys (now (frames .entry)) (now (values .entry)) (now (slopes .entry))) (redoRefusal (now (s .entry)) p (keys (now (frames .entry)) (now (values .entry)) (now (slopes .entry)))) ⌝ }
+    ensures { λ n. ⌜ n ≡ declines (redoTable (now (s .entry)) p (keys (now (frames .entry)) (now (values .entry)) (now (slopes .entry)))) ⌝ }
 {
-    let n = check_keys(p, s, frames, values, slopes);
+    let n = check_state(p, s, frames, values, slopes);
     if n != ACCEPTED {
         return n;
     }

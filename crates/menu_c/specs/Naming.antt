@@ -1,16 +1,15 @@
 -- Names that a call copies into a lent output (document 01, "What a call declines", row 13: outputs not exactly as long). Definitions only.
 use Prim.Native.Nat.{ℕ}
 use mathlib.Core.Bool.{cond}
-use mathlib.Core.List.{List}
-use lib.Dec.{eqb, ltb}
+use mathlib.Core.List.{List, [], _∷_, _++_}
+use lib.Dec.{eqb}
 use lib.ListN.{length}
-use Rattle.laws.specs.Refusals.{unless}
-use Rattle.sheet.specs.Sizes.{animationCount}
-use Rattle.sheet.specs.Sheet.{sheetOk}
+use Rattle.laws.specs.Rows.{Row, row, declines}
 use Rattle.player.specs.declared.Player.{Player}
 use Rattle.player.specs.Keys.{Keys}
+use Rattle.menu.specs.Rows.{nextNameTable, textureNameTable}
 use Rattle.menu.specs.Calls.{nextNameOf}
-use Rattle.menu.specs.Readings.{checkBook, layerRest, textureNameOf}
+use Rattle.menu.specs.Readings.{textureNameOf}
 
 -- a name's field (document 01, "Sheet and book")
 abbrev pub nameBytes : ℕ
@@ -24,19 +23,24 @@ pub record NameOut : Type 0 where
 abbrev pub gaveName : ℕ → List ℕ → NameOut
 gaveName n o = record { refusal = n; out = o }
 
--- the name, where neither n nor row 13 declines
-unfoldable pub nameInto : ℕ → List ℕ → List ℕ → NameOut
-nameInto n name o =
-    let m = unless (eqb n 0) n (unless (eqb (length o) nameBytes) 13 0) in
-    record { refusal = m; out = cond (eqb m 0) name o }
+-- row 13: the output is as long as a name
+unfoldable pub nameRows : List ℕ → List Row
+nameRows o = row 13 (eqb (length o) nameBytes) ∷ []
 
--- rows 1 and 6: the sheet, and an animation from A up
-unfoldable pub nextRefusal : List ℕ → ℕ → ℕ
-nextRefusal s a = unless (sheetOk s) 1 (unless (ltb a (animationCount s)) 6 0)
+-- the name, where each row of the call holds
+unfoldable pub nameInto : List Row → List ℕ → List ℕ → NameOut
+nameInto rs name o = let n = declines rs in record { refusal = n; out = cond (eqb n 0) name o }
+
+-- the name that follows an animation: the refusals of asking for it come first
+unfoldable pub nextNameOutTable : List ℕ → ℕ → List ℕ → List Row
+nextNameOutTable s a o = nextNameTable s a ++ nameRows o
 
 unfoldable pub nextNameInto : List ℕ → ℕ → List ℕ → NameOut
-nextNameInto s a o = nameInto (nextRefusal s a) (nextNameOf s a) o
+nextNameInto s a o = nameInto (nextNameOutTable s a o) (nextNameOf s a) o
 
--- the refusal of reading the slot comes first
+-- a slot's texture name: the refusals of reading the slot come first
+unfoldable pub textureNameOutTable : List ℕ → List ℕ → Player → Keys → ℕ → ℕ → List ℕ → List Row
+textureNameOutTable s b p ks m slot o = textureNameTable s b p ks m slot ++ nameRows o
+
 unfoldable pub textureNameInto : List ℕ → List ℕ → Player → Keys → ℕ → ℕ → List ℕ → NameOut
-textureNameInto s b p ks m slot o = nameInto (checkBook s b p ks (layerRest b m slot)) (textureNameOf s b p ks m slot) o
+textureNameInto s b p ks m slot o = nameInto (textureNameOutTable s b p ks m slot o) (textureNameOf s b p ks m slot) o

@@ -7,15 +7,16 @@ use player::Player;
 ghost use mathlib.Core.Path.{_≡_};
 ghost use lib.ListN.{length};
 ghost use Rattle.player.specs.Keys.{keys};
-ghost use Rattle.menu.specs.Readings.{checkBook, layerRest};
-ghost use Rattle.menu_c.specs.Naming.{nameBytes, gaveName, nameInto, nextRefusal, nextNameInto, textureNameInto};
+ghost use Rattle.laws.specs.Rows.{declines};
+ghost use Rattle.menu.specs.Rows.{nextNameTable, textureNameTable};
+ghost use Rattle.menu_c.specs.Naming.{nameBytes, gaveName, nameRows, nameInto, nextNameInto, textureNameInto};
 
 // A name's field.
 const NAME: usize = 24;
 
 fn hand_out(name: &[u8], out: &mut [u8]) -> u8
     requires { ⌜ length (now name) ≡ nameBytes ⌝ }
-    ensures { λ r. ⌜ gaveName r (now (out .exit)) ≡ nameInto 0 (now (name .entry)) (now (out .entry)) ⌝ }
+    ensures { λ r. ⌜ gaveName r (now (out .exit)) ≡ nameInto (nameRows (now (out .entry))) (now (name .entry)) (now (out .entry)) ⌝ }
 {
     if out.len() != NAME {
         return OUTPUT_LENGTH;
@@ -25,7 +26,7 @@ fn hand_out(name: &[u8], out: &mut [u8]) -> u8
 }
 
 fn next_refusal(s: &[u8], animation: u16) -> u8
-    ensures { λ r. ⌜ r ≡ nextRefusal (now (s .entry)) animation ⌝ }
+    ensures { λ r. ⌜ r ≡ declines (nextNameTable (now (s .entry)) animation) ⌝ }
 {
     if !sheet::sheet_ok(s) {
         return SHEET_LAYOUT;
@@ -48,7 +49,7 @@ pub extern "C" fn menu_next_name(sheet: &[u8], animation: u16, out: &mut [u8]) -
     hand_out(menu::next_name(sheet, animation), out)
 }
 
-// The refusal of reading a material's texture slot, which is that of its layer.
+// The refusal of reading a material's texture slot.
 fn slot_refusal(
     p: Player,
     s: &[u8],
@@ -59,9 +60,10 @@ fn slot_refusal(
     material: u16,
     slot: u16,
 ) -> u8
-    ensures { λ n. ⌜ n ≡ checkBook (now (s .entry)) (now (b .entry)) p (keys (now (frames .entry)) (now (values .entry)) (now (slopes .entry))) (layerRest (now (b .entry)) material slot) ⌝ }
+    ensures { λ n. ⌜ n ≡ declines (textureNameTable (now (s .entry)) (now (b .entry)) p (keys (now (frames .entry)) (now (values .entry)) (now (slopes .entry))) material slot) ⌝ }
 {
-    let g = menu::resolve_srt(p, s, b, frames, values, slopes, material, slot);
+    let c = channel::slot_channel(slot);
+    let g = menu::read_material(p, s, b, frames, values, slopes, material, c);
     g.refusal
 }
 

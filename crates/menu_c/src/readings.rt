@@ -8,7 +8,7 @@ use crate::flat::resolved_srt;
 use player::Player;
 ghost use mathlib.Core.Path.{_≡_};
 ghost use Rattle.player.specs.Keys.{keys};
-ghost use Rattle.menu.specs.Readings.{readPaneOf, readMaterialOf, gaveTables, readAllOf, resolvePaneOf, resolveSrtOf, gaveRows, cascadeOf};
+ghost use Rattle.menu.specs.Readings.{readPaneOf, readMaterialOf, gaveTables, readAllOf, resolvePaneOf, resolveSrtOf, gaveCascade, cascadeOf};
 ghost use Rattle.menu_c.specs.Answers.{readOneOf, resolvedPaneOf, resolvedSrtOf};
 
 #[no_mangle]
@@ -111,7 +111,7 @@ pub extern "C" fn menu_cascade(
     alpha: &mut [f32],
     influence: &mut [f32],
 ) -> u8
-    ensures { λ n. ⌜ gaveRows n (now (visible .exit)) (now (alpha .exit)) (now (influence .exit)) ≡ cascadeOf (now (sheet .entry)) (now (book .entry)) player (keys (now (frames .entry)) (now (values .entry)) (now (slopes .entry))) (now (visible .entry)) (now (alpha .entry)) (now (influence .entry)) ⌝ }
+    ensures { λ n. ⌜ gaveCascade n (now (visible .exit)) (now (alpha .exit)) (now (influence .exit)) ≡ cascadeOf (now (sheet .entry)) (now (book .entry)) player (keys (now (frames .entry)) (now (values .entry)) (now (slopes .entry))) (now (visible .entry)) (now (alpha .entry)) (now (influence .entry)) ⌝ }
 {
     menu::cascade(
         player,

@@ -2,11 +2,11 @@
 -- makes, and when it is declined (rows 6 to 10 of the table). Definitions only.
 use Prim.Native.Nat.{ℕ, _+_, _-_}
 use mathlib.Core.Bool.{Bool, true, false, not, _&&_, _||_, cond}
-use mathlib.Core.List.{List}
+use mathlib.Core.List.{List, [], _∷_}
 use lib.Dec.{eqb, ltb}
 use lib.ListN.{getD}
 use lib.Ieee.{Float, nan, lt}
-use Rattle.laws.specs.Refusals.{unless}
+use Rattle.laws.specs.Rows.{Row, row}
 use Rattle.float.specs.Numbers.{#, zero', _⊕_, _⊖_, finite}
 use Rattle.float.specs.Grow.{hundredth}
 use Rattle.float.specs.Clamp.{clampOf, maxOf}
@@ -73,17 +73,15 @@ unfoldable pub overtakes : List Float → Spot → Float → Bool
 overtakes fs p x = not (eqb (p .curve) kindConstant) && p .more && lt (getD fs (p .at + 1) nan) (clampedFrame fs p x)
 
 -- rows 8 to 10: the request's numbers are finite; a key's clamped frame is not above the next key's; a slope is a Hermite key's
-unfoldable pub requestRefusal : List Float → Spot → Request → ℕ
-requestRefusal fs p (request.Key x v) = unless (finite x && finite v) 8 (unless (not (overtakes fs p x)) 9 0)
-requestRefusal fs p (request.Slope m) = unless (finite m) 8 (unless (eqb (p .curve) kindHermite) 10 0)
+unfoldable pub requestRows : List Float → Spot → Request → List Row
+requestRows fs p (request.Key x v) = row 8 (finite x && finite v) ∷ row 9 (not (overtakes fs p x)) ∷ []
+requestRows fs p (request.Slope m) = row 8 (finite m) ∷ row 10 (eqb (p .curve) kindHermite) ∷ []
 
 -- the track is one of the animation's, and has such a key
 unfoldable pub keyIn : List ℕ → ℕ → ℕ → ℕ → Bool
 keyIn s animation track key = hasKey s track key && eqb (contentRow s (targetRow s track .content) .animation) animation
 
 -- rows 6 to 10: nothing active; the track is not in the active animation, or no such key; and the request's own
-unfoldable pub editRefusal : List ℕ → ℕ → Keys → ℕ → ℕ → Request → ℕ
-editRefusal s selection ks track key r =
-    unless (not (eqb selection none)) 6
-    (unless (keyIn s selection track key) 7
-    (requestRefusal (ks .frames) (spotOf s track key) r))
+unfoldable pub editRows : List ℕ → ℕ → Keys → ℕ → ℕ → Request → List Row
+editRows s selection ks track key r =
+    row 6 (not (eqb selection none)) ∷ row 7 (keyIn s selection track key) ∷ requestRows (ks .frames) (spotOf s track key) r

@@ -1,13 +1,15 @@
 -- The keys of a sheet as three lists of one length (document 01, "Sheet and book": three lent f32 arrays), one key of them, and one key put in
 -- another's place. Assumes nothing.
-use Prim.Native.Nat.{ℕ, _<_}
+use Prim.Native.Nat.{ℕ, zero, suc, _<_}
 use mathlib.Core.Path.{_≡_, refl}
-use mathlib.Core.List.{List}
+use mathlib.Core.List.{List, [], _∷_}
+use lib.Dec.{T}
 use lib.ListN.{getD, set, length, length-set}
 use lib.Seq.{getD-set-same, getD-set-other, set-set, set-getD}
-use lib.Ieee.{Float, nan}
+use lib.Ieee.{Float, nan, binary32, fits}
 use Rattle.curve.specs.declared.Key.{Key}
 use Rattle.curve.specs.Keys as curve
+use Rattle.curve.specs.Before.{Held}
 
 pub record Keys : Type 0 where
   pub frames : List Float
@@ -30,6 +32,18 @@ pub record Within (ks : Keys) (i : ℕ) : Type 0 where
   pub frames : i < length (ks .frames)
   pub values : i < length (ks .values)
   pub slopes : i < length (ks .slopes)
+
+-- binary32 holds each number of the keys, as it does each element of the lent arrays
+pub record HeldKeys (ks : Keys) : Type 0 where
+  pub frames : Held (ks .frames)
+  pub values : Held (ks .values)
+  pub slopes : Held (ks .slopes)
+
+-- and the three of one key
+pub record HeldKey (k : Key) : Type 0 where
+  pub frame : T (fits binary32 (k .frame))
+  pub value : T (fits binary32 (k .value))
+  pub slope : T (fits binary32 (k .slope))
 
 -- ---- laws
 pub get-put : (ks : Keys) (i : ℕ) (k : Key) → Within ks i → keyAt (putKey ks i k) i ≡ k
@@ -55,3 +69,20 @@ pub put-length : (ks : Keys) (i : ℕ) (k : Key) →
     (length (putKey ks i k .frames) ≡ length (ks .frames)) × (length (putKey ks i k .values) ≡ length (ks .values)) × (length (putKey ks i k .slopes) ≡ length (ks .slopes))
 unfolding putKey
 put-length ks i k = (length-set (ks .frames) i (k .frame), length-set (ks .values) i (k .value), length-set (ks .slopes) i (k .slope))
+
+-- and an f32 in another's place leaves f32
+set-held : (fs : List Float) (i : ℕ) (x : Float) → Held fs → T (fits binary32 x) → Held (set fs i x)
+set-held [] i x h e j = h j
+set-held (y ∷ ys) zero x h e zero = e
+set-held (y ∷ ys) zero x h e (suc j) = h (suc j)
+set-held (y ∷ ys) (suc i) x h e zero = h 0
+set-held (y ∷ ys) (suc i) x h e (suc j) = set-held ys i x (λ k. h (suc k)) e j
+
+pub put-held : (ks : Keys) (i : ℕ) (k : Key) → HeldKeys ks → HeldKey k → HeldKeys (putKey ks i k)
+unfolding putKey
+put-held ks i k h e =
+    record {
+      frames = set-held (ks .frames) i (k .frame) (h .frames) (e .frame);
+      values = set-held (ks .values) i (k .value) (h .values) (e .value);
+      slopes = set-held (ks .slopes) i (k .slope) (h .slopes) (e .slope);
+    }

@@ -10,3 +10,4 @@ pub mod Counts
 pub mod Sound
 pub mod Put
 pub mod Accepted
+pub mod Edits

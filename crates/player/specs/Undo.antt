@@ -2,9 +2,9 @@
 -- counts after it; and the journal and counts after an accepted edit. Assumes nothing.
 use Prim.Native.Nat.{ℕ, _+_, _-_, min}
 use mathlib.Core.Bool.{Bool, true, false, not, _&&_, _||_}
-use mathlib.Core.List.{List}
+use mathlib.Core.List.{List, [], _∷_}
 use lib.Dec.{eqb}
-use Rattle.laws.specs.Refusals.{unless}
+use Rattle.laws.specs.Rows.{Row, row}
 use Rattle.float.specs.Numbers.{sameBits}
 use Rattle.keys.specs.Keys.{keysOk}
 use Rattle.curve.specs.declared.Key.{Key}
@@ -35,16 +35,15 @@ returnsOk s ks e now back =
     sameKey (keyAt ks (place s (e .track) (e .key))) now
     && keysOkOf s (putKey ks (place s (e .track) (e .key)) back)
 
--- rows 5 and 11 of an undo, of a player whose state is not broken
-unfoldable pub undoRefusal : List ℕ → Player → Keys → ℕ
-undoRefusal s p ks =
-    unless (eqb (p .reach) 0 || returnsOk s ks (undoEntry p) (undoEntry p .after) (undoEntry p .before)) 5
-    (unless (not (eqb (p .reach) 0)) 11 0)
+-- rows 5 and 11 of an undo, of a player whose state is not broken: the entry's key may come back, and there is an entry
+unfoldable pub undoRows : List ℕ → Player → Keys → List Row
+undoRows s p ks =
+    row 5 (eqb (p .reach) 0 || returnsOk s ks (undoEntry p) (undoEntry p .after) (undoEntry p .before)) ∷ row 11 (not (eqb (p .reach) 0)) ∷ []
 
-unfoldable pub redoRefusal : List ℕ → Player → Keys → ℕ
-redoRefusal s p ks =
-    unless (eqb (p .redo) 0 || returnsOk s ks (redoEntry p) (redoEntry p .before) (redoEntry p .after)) 5
-    (unless (not (eqb (p .redo) 0)) 11 0)
+-- and of a redo
+unfoldable pub redoRows : List ℕ → Player → Keys → List Row
+redoRows s p ks =
+    row 5 (eqb (p .redo) 0 || returnsOk s ks (redoEntry p) (redoEntry p .before) (redoEntry p .after)) ∷ row 11 (not (eqb (p .redo) 0)) ∷ []
 
 -- the keys with an entry's key put back, or made again
 unfoldable pub undoneKeys : List ℕ → Keys → Entry → Keys

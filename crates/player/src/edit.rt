@@ -10,11 +10,12 @@ use laws::refusal::PAST_NEXT_KEY;
 ghost use mathlib.Core.Path.{_≡_};
 ghost use Prim.Native.Nat.{ℕ, _<_, _≤_};
 ghost use lib.ListN.{length, set};
+ghost use Rattle.laws.specs.Rows.{declines};
 ghost use Rattle.sheet.specs.Sizes.{animationCount, targetCount};
 ghost use Rattle.sheet.specs.Checked.{Checked};
 ghost use Rattle.player.specs.Keys.{Keys, keys, keyAt, Within};
 ghost use Rattle.player.specs.Player.{hasKey};
-ghost use Rattle.player.specs.Edit.{spotOf, lowest, highest, clampedFrame, editedFrame, editedValue, editedAt, overtakes, requestRefusal, keyIn};
+ghost use Rattle.player.specs.Edit.{spotOf, lowest, highest, clampedFrame, editedFrame, editedValue, editedAt, overtakes, keyIn, requestRows};
 ghost use Rattle.player.specs.Spot.{Inside, InsideAll};
 
 // What is asked of a key: a frame and a value, or a slope.
@@ -164,7 +165,7 @@ fn overtakes(frames: &[f32], p: Spot, x: f32) -> bool
 // Rows 8 and 9 of a key edit.
 fn key_refusal(frames: &[f32], p: Spot, x: f32, v: f32) -> u8
     requires { ⌜ Inside (now frames) p ⌝ }
-    ensures { λ r. ⌜ r ≡ requestRefusal (now (frames .entry)) p (Request.Key x v) ⌝ }
+    ensures { λ r. ⌜ r ≡ declines (requestRows (now (frames .entry)) p (Request.Key x v)) ⌝ }
 {
     if !(float::is_finite(x) & float::is_finite(v)) {
         return BAD_ARGUMENT;
@@ -177,7 +178,7 @@ fn key_refusal(frames: &[f32], p: Spot, x: f32, v: f32) -> u8
 
 // Rows 8 and 10 of a slope edit.
 fn slope_refusal(frames: &[f32], p: Spot, m: f32) -> u8
-    ensures { λ r. ⌜ r ≡ requestRefusal (now (frames .entry)) p (Request.Slope m) ⌝ }
+    ensures { λ r. ⌜ r ≡ declines (requestRows (now (frames .entry)) p (Request.Slope m)) ⌝ }
 {
     if !float::is_finite(m) {
         return BAD_ARGUMENT;
@@ -190,7 +191,7 @@ fn slope_refusal(frames: &[f32], p: Spot, m: f32) -> u8
 
 pub fn request_refusal(frames: &[f32], p: Spot, r: Request) -> u8
     requires { ⌜ Inside (now frames) p ⌝ }
-    ensures { λ n. ⌜ n ≡ requestRefusal (now (frames .entry)) p r ⌝ }
+    ensures { λ n. ⌜ n ≡ declines (requestRows (now (frames .entry)) p r) ⌝ }
 {
     match r {
         Request::Key(x, v) => key_refusal(frames, p, x, v),

@@ -1,5 +1,5 @@
--- What a reader expects of the definitions (document 01, "Channels"): with nothing active nothing is overridden; a channel is overridden exactly
--- when some target of the active animation addresses it; the value is the last such target's. Assumes nothing.
+-- What a reader expects of the definitions (document 01, "Channels"): with nothing active nothing is overridden, and a texture row that is read is
+-- one of the sheet's texture names. Assumes nothing.
 use Prim.Native.Nat.{ℕ, _<_}
 use mathlib.Core.List.{List}
 use mathlib.Core.Bool.{Bool, true, false, cond}
@@ -8,14 +8,12 @@ use native.Mathlib.Omega.{arith}
 use borrow.Author.Tests.{ltb-true}
 use lib.Dec.{ltb}
 use lib.Ieee.{Float}
-use Rattle.laws.specs.Last.{last-within}
-use Rattle.laws.specs.Swept.{isAt}
 use Rattle.laws.specs.Table.{table}
 use Rattle.laws.specs.declared.Found.{Found}
 use Rattle.laws.specs.declared.Found.the-variants as found
-use Rattle.sheet.specs.Sizes.{targetCount, textureCount}
+use Rattle.sheet.specs.Sizes.{textureCount}
 use Rattle.sheet.specs.Rows.{targetRow}
-use Rattle.channel.specs.Channel.{familyOf, channelCount, targetChannel}
+use Rattle.channel.specs.Channel.{familyOf, channelCount}
 use Rattle.reading.specs.Reading.{valueAt, value16At, rowOf, readAs, rowReading, targetReading, lastTarget, readingOf, reading, marksOf, numbersOf, noMark, noNumber}
 use Rattle.channel.specs.declared.Family.{Family}
 use Rattle.channel.specs.declared.Family.the-variants as family
@@ -37,13 +35,6 @@ none-marked s b fs vs ss = refl
 pub none-numbered : (s b : List ℕ) (fs vs ss : List Float) → table (channelCount b) noNumber ≡ numbersOf s b fs vs ss active.Nothing
 unfolding numbersOf reading
 none-numbered s b fs vs ss = refl
-
--- ---- the last target
-
--- it is one of the sheet's
-pub last-target-within : (s b : List ℕ) (a c t : ℕ) → lastTarget s b a c ≡ found.At t → t < targetCount s
-unfolding lastTarget
-last-target-within s b a c t e = last-within (targetCount s) (λ t. isAt (targetChannel s b a t) c) t e
 
 -- ---- a texture row is one of the sheet's texture names
 

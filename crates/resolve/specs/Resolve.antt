@@ -12,7 +12,7 @@ use Rattle.book.specs.Rows.{paneRow, materialSrt, materialTexture}
 use Rattle.book.specs.declared.rows.Srt.{Srt}
 use Rattle.book.specs.declared.rows.Vector2.{Vector2}
 use Rattle.book.specs.declared.rows.Vector3.{Vector3}
-use Rattle.channel.specs.Channel.{ofPane, ofMaterial}
+use Rattle.channel.specs.Channel.{slotChannel, ofPane, ofMaterial}
 use Rattle.reading.specs.Reading.{reading, full}
 use Rattle.reading.specs.declared.Active.{Active}
 use Rattle.reading.specs.declared.Reading.{Reading}
@@ -95,4 +95,4 @@ module _ (s b : List ℕ) (fs vs ss : List Float) (a : Active) where
   nameFor found.Nothing m slot = materialTexture b m slot
 
   unfoldable pub textureOf : ℕ → ℕ → List ℕ
-  textureOf m slot = nameFor (rowIn (reading s b fs vs ss a (ofMaterial b m (15 + slot)))) m slot
+  textureOf m slot = nameFor (rowIn (reading s b fs vs ss a (ofMaterial b m (slotChannel slot)))) m slot

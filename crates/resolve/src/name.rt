@@ -34,7 +34,8 @@ pub fn texture_name<'a>(
     requires { ⌜ Ready (now s) (now b) (now frames) (now values) (now slopes) × ((m < materialCount (now b)) × (slot < 3)) ⌝ }
     ensures { λ r. ⌜ now r ≡ textureOf (now (s .entry)) (now (b .entry)) (now (frames .entry)) (now (values .entry)) (now (slopes .entry)) active m slot ⌝ }
 {
-    let c = channel::of_material(b, m, 15 + slot);
+    let k = channel::slot_channel(slot as u16) as usize;
+    let c = channel::of_material(b, m, k);
     let r = read_channel(s, b, frames, values, slopes, active, c);
     let Found::At(k) = row_in(r) else {
         return book::material_texture(b, m, slot);

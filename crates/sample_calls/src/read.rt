@@ -267,11 +267,6 @@ fn cascade(
     )
 }
 
-// A slot's channel; a slot from 3 up has none, so it is read as one that no material has.
-fn slot_channel(slot: u16) -> u16 {
-    if slot < 3 { 15 + slot } else { 65535 }
-}
-
 // The name, and the refusal of reading the slot.
 fn texture_name<'a>(
     p: Player,
@@ -296,7 +291,7 @@ fn texture_name<'a>(
         values,
         slopes,
         material,
-        slot_channel(slot),
+        channel::slot_channel(slot),
     );
     Compared {
         size: 7 + byte_in(c, 6) as usize,

@@ -6,7 +6,8 @@ use lib.Dec.{ltb}
 use lib.ListN.{length}
 use Rattle.sheet.specs.Sizes.{keyCount}
 use Rattle.book.specs.Book.{bookOk}
-use Rattle.keys.specs.Load.{loadRefusal}
+use Rattle.laws.specs.Rows.{declines}
+use Rattle.keys.specs.Load.{loadTable}
 
 -- the number of keys that the bytes name, where they are long enough to name one
 abbrev pub keysNamed : List ℕ → ℕ
@@ -14,7 +15,7 @@ keysNamed s = cond (ltb (length s) 12) 0 (keyCount s)
 
 -- 0, 1 or 4: arrays of that length leave nothing for row 3
 abbrev pub sheetRefusal : List ℕ → ℕ
-sheetRefusal s = loadRefusal s (keysNamed s) (keysNamed s) (keysNamed s)
+sheetRefusal s = declines (loadTable s (keysNamed s) (keysNamed s) (keysNamed s))
 
 -- 0 or 2
 abbrev pub bookRefusal : List ℕ → ℕ

@@ -4,8 +4,9 @@ use mathlib.Core.List.{List}
 use Prim.Native.Nat.{ℕ}
 use lib.ListN.{length}
 use lib.Ieee.{Float}
+use Rattle.laws.specs.Rows.{declines}
 use Rattle.geometry.specs.Uvs.{Block, baseUvs, applied, numbers}
-use Rattle.geometry.specs.Declined.{uvsRefusal, uvs-length}
+use Rattle.geometry.specs.Declined.{uvsTable, uvs-length}
 use Rattle.geometry.specs.Calls.{filled, uvsOf}
 use Rattle.geometry.proofs.Answers.{declined, accepted}
 use borrow.Author.Needs.{needs}
@@ -34,10 +35,10 @@ same-length : tie.Need-same-length
 same-length c = search needs
 
 -- what the calls give, put together
-whole : (ls ss o out : List Float) (base block : Block) (n : ℕ) → n ≡ uvsRefusal ls ss (length o) → n ≡ 0 → base ≡ baseUvs ls → block ≡ applied base ss → out ≡ numbers block → filled 0 out ≡ uvsOf ls ss o
+whole : (ls ss o out : List Float) (base block : Block) (n : ℕ) → n ≡ declines (uvsTable ls ss (length o)) → n ≡ 0 → base ≡ baseUvs ls → block ≡ applied base ss → out ≡ numbers block → filled 0 out ≡ uvsOf ls ss o
 unfolding uvsOf
 whole ls ss o out base block n e h p q r =
-    accepted filled n (uvsRefusal ls ss (length o)) out (numbers (applied (baseUvs ls) ss)) (filled (uvsRefusal ls ss (length o)) o) e h (r ∙ ap numbers (q ∙ ap (λ (b : Block). applied b ss) p))
+    accepted filled n (declines (uvsTable ls ss (length o))) out (numbers (applied (baseUvs ls) ss)) o e h (r ∙ ap numbers (q ∙ ap (λ (b : Block). applied b ss) p))
 
 returns-2 : tie.Need-returns-2
 returns-2 c =

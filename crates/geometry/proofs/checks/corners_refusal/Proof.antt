@@ -1,39 +1,39 @@
--- Each return is at its place in the chain of tests.
-use Rattle.laws.specs.Refusals.{refusals}
-use Rattle.geometry.specs.Declined.{cornersRefusal}
+-- Each return is at its row.
+use Rattle.laws.specs.Rows.{rows}
+use Rattle.geometry.specs.Declined.{cornersTable}
 use borrow.Author.Tests.{le-leb, lt-leb}
 use borrow.Author.Needs.{needs}
 use Rattle.geometry.proofs.checks.corners_refusal.Statement.{statement}
 use Rattle.geometry.proofs.checks.corners_refusal.Tie as tie
 
 returns : tie.Need-returns
-unfolding cornersRefusal
-returns c = search (refusals, le-leb, lt-leb)
+unfolding cornersTable
+returns c = search (rows, le-leb, lt-leb)
 
 returns-2 : tie.Need-returns-2
-unfolding cornersRefusal
-returns-2 c = search (refusals, le-leb, lt-leb)
+unfolding cornersTable
+returns-2 c = search (rows, le-leb, lt-leb)
 
 is-finite2-requires : tie.Need-is-finite2-requires
 is-finite2-requires c κs = search needs
 
 returns-3 : tie.Need-returns-3
-unfolding cornersRefusal
-returns-3 c = search (refusals, le-leb)
+unfolding cornersTable
+returns-3 c = search (rows, le-leb)
 
 is-finite2-requires-2 : tie.Need-is-finite2-requires-2
 is-finite2-requires-2 c κs = search needs
 
 returns-4 : tie.Need-returns-4
-unfolding cornersRefusal
-returns-4 c = search (refusals, le-leb)
+unfolding cornersTable
+returns-4 c = search (rows, le-leb)
 
 rotation-refusal-requires : tie.Need-rotation-refusal-requires
 rotation-refusal-requires c κs = search needs
 
 returns-5 : tie.Need-returns-5
-unfolding cornersRefusal
-returns-5 c = search (refusals, le-leb)
+unfolding cornersTable
+returns-5 c = search (rows, le-leb)
 
 pub corners-refusal-spec : {M : Type 1} → statement M
 corners-refusal-spec =

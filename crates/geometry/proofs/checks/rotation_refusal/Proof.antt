@@ -1,6 +1,6 @@
--- Each return is at its place in the chain of tests.
-use Rattle.laws.specs.Refusals.{refusals}
-use Rattle.geometry.specs.Declined.{rotationRefusal}
+-- Each return is at its row.
+use Rattle.laws.specs.Rows.{rows}
+use Rattle.geometry.specs.Declined.{rotationRows}
 use borrow.Author.Needs.{needs}
 use Rattle.geometry.proofs.checks.rotation_refusal.Statement.{statement}
 use Rattle.geometry.proofs.checks.rotation_refusal.Tie as tie
@@ -9,33 +9,33 @@ is-finite3-requires : tie.Need-is-finite3-requires
 is-finite3-requires c κs = search needs
 
 returns : tie.Need-returns
-unfolding rotationRefusal
-returns c = search refusals
+unfolding rotationRows
+returns c = search rows
 
 angle-passes-requires : tie.Need-angle-passes-requires
 angle-passes-requires c κs = search needs
 
 returns-2 : tie.Need-returns-2
-unfolding rotationRefusal
-returns-2 c = search refusals
+unfolding rotationRows
+returns-2 c = search rows
 
 angle-passes-requires-2 : tie.Need-angle-passes-requires-2
 angle-passes-requires-2 c κs = search needs
 
 returns-3 : tie.Need-returns-3
-unfolding rotationRefusal
-returns-3 c = search refusals
+unfolding rotationRows
+returns-3 c = search rows
 
 angle-passes-requires-3 : tie.Need-angle-passes-requires-3
 angle-passes-requires-3 c κs = search needs
 
 returns-4 : tie.Need-returns-4
-unfolding rotationRefusal
-returns-4 c = search refusals
+unfolding rotationRows
+returns-4 c = search rows
 
 returns-5 : tie.Need-returns-5
-unfolding rotationRefusal
-returns-5 c = search refusals
+unfolding rotationRows
+returns-5 c = search rows
 
 pub rotation-refusal-spec : {M : Type 1} → statement M
 rotation-refusal-spec =

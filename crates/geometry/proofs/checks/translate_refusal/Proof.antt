@@ -1,6 +1,6 @@
--- Each return is at its place in the chain of tests.
-use Rattle.laws.specs.Refusals.{refusals}
-use Rattle.geometry.specs.Declined.{translateRefusal}
+-- Each return is at its row.
+use Rattle.laws.specs.Rows.{rows}
+use Rattle.geometry.specs.Declined.{translateTable}
 use borrow.Author.Needs.{needs}
 use Rattle.geometry.proofs.checks.translate_refusal.Statement.{statement}
 use Rattle.geometry.proofs.checks.translate_refusal.Tie as tie
@@ -9,19 +9,19 @@ is-finite4-requires : tie.Need-is-finite4-requires
 is-finite4-requires c κs = search needs
 
 returns : tie.Need-returns
-unfolding translateRefusal
-returns c = search refusals
+unfolding translateTable
+returns c = search rows
 
 is-finite2-requires : tie.Need-is-finite2-requires
 is-finite2-requires c κs = search needs
 
 returns-2 : tie.Need-returns-2
-unfolding translateRefusal
-returns-2 c = search refusals
+unfolding translateTable
+returns-2 c = search rows
 
 returns-3 : tie.Need-returns-3
-unfolding translateRefusal
-returns-3 c = search refusals
+unfolding translateTable
+returns-3 c = search rows
 
 pub translate-refusal-spec : {M : Type 1} → statement M
 translate-refusal-spec =

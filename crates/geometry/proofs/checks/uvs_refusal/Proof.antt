@@ -1,47 +1,47 @@
--- Each return is at its place in the chain of tests.
-use Rattle.laws.specs.Refusals.{refusals}
-use Rattle.geometry.specs.Declined.{uvsRefusal}
+-- Each return is at its row.
+use Rattle.laws.specs.Rows.{rows}
+use Rattle.geometry.specs.Declined.{uvsTable}
 use borrow.Author.Tests.{eq-eqb, ne-eqb}
 use borrow.Author.Needs.{needs}
 use Rattle.geometry.proofs.checks.uvs_refusal.Statement.{statement}
 use Rattle.geometry.proofs.checks.uvs_refusal.Tie as tie
 
 returns : tie.Need-returns
-unfolding uvsRefusal
-returns c = search (refusals, eq-eqb, ne-eqb) depth 9
+unfolding uvsTable
+returns c = search (rows, eq-eqb, ne-eqb) depth 9
 
 returns-2 : tie.Need-returns-2
-unfolding uvsRefusal
-returns-2 c = search (refusals, eq-eqb, ne-eqb) depth 9
+unfolding uvsTable
+returns-2 c = search (rows, eq-eqb, ne-eqb) depth 9
 
 all-finite-requires : tie.Need-all-finite-requires
 all-finite-requires c κs = search needs
 
 returns-3 : tie.Need-returns-3
-unfolding uvsRefusal
-returns-3 c = search (refusals, eq-eqb, ne-eqb) depth 9
+unfolding uvsTable
+returns-3 c = search (rows, eq-eqb, ne-eqb) depth 9
 
 all-finite-requires-2 : tie.Need-all-finite-requires-2
 all-finite-requires-2 c κs = search needs
 
 returns-4 : tie.Need-returns-4
-unfolding uvsRefusal
-returns-4 c = search (refusals, eq-eqb, ne-eqb) depth 9
+unfolding uvsTable
+returns-4 c = search (rows, eq-eqb, ne-eqb) depth 9
 
 angles-pass-requires : tie.Need-angles-pass-requires
 angles-pass-requires c κs = search needs
 
 returns-5 : tie.Need-returns-5
-unfolding uvsRefusal
-returns-5 c = search (refusals, eq-eqb) depth 9
+unfolding uvsTable
+returns-5 c = search (rows, eq-eqb) depth 9
 
 returns-6 : tie.Need-returns-6
-unfolding uvsRefusal
-returns-6 c = search (refusals, eq-eqb, ne-eqb) depth 9
+unfolding uvsTable
+returns-6 c = search (rows, eq-eqb, ne-eqb) depth 9
 
 returns-7 : tie.Need-returns-7
-unfolding uvsRefusal
-returns-7 c = search (refusals, eq-eqb) depth 9
+unfolding uvsTable
+returns-7 c = search (rows, eq-eqb) depth 9
 
 pub uvs-refusal-spec : {M : Type 1} → statement M
 uvs-refusal-spec =

@@ -1,12 +1,12 @@
 use native.Mathlib.Omega.{arith}
-use mathlib.Core.Path.{_≡_, refl}
+use mathlib.Core.Path.{_≡_}
 use mathlib.Core.Bool.{_&&_}
 use denote.Ref.{now}
 use lib.Dec.{eqb}
 use Rattle.laws.specs.Tests.{no, yes}
-use Rattle.laws.specs.Refusals.{stop, skip}
+use Rattle.laws.specs.Rows.{no-rows, fails, passes}
 use Rattle.sheet.specs.Checked.{Checked, checked}
-use Rattle.keys.specs.Load.{arraysOk, loadRefusal}
+use Rattle.keys.specs.Load.{arraysOk, loadTable}
 use borrow.Author.Needs.{needs}
 use Rattle.keys.proofs.load.load_refusal.Statement.{statement}
 use Rattle.keys.proofs.load.load_refusal.Tie as tie
@@ -16,8 +16,8 @@ sheet-ok-requires c κs = search needs
 
 -- no sheet
 returns : tie.Need-returns
-unfolding loadRefusal
-returns c = stop _ _ _ (no (c .before .sheet-ok .ensures) (c .if1 .taken))
+unfolding loadTable
+returns c = fails _ _ (no (c .before .sheet-ok .ensures) (c .if1 .taken))
 
 -- past the first test s is a checked sheet
 sheet : (c : tie.Else1) → Checked (now (c .before .before .before .args .s))
@@ -33,21 +33,21 @@ arrays c = cc
 
 -- a sheet, and an array that is not K long
 returns-2 : tie.Need-returns-2
-unfolding loadRefusal
-returns-2 c = let b = c .before .before in skip _ _ _ _ (yes (b .before .sheet-ok .ensures) (b .if1 .left)) (stop _ _ _ (no (arrays (c .before)) (c .if2 .taken)))
+unfolding loadTable
+returns-2 c = let b = c .before .before in passes _ _ (yes (b .before .sheet-ok .ensures) (b .if1 .left)) (fails _ _ (no (arrays (c .before)) (c .if2 .taken)))
 
 stored-ok-requires : tie.Need-stored-ok-requires
 stored-ok-requires c κs = sheet (c .before .before)
 
 -- and arrays that are, and keys that break the rules
 returns-3 : tie.Need-returns-3
-unfolding loadRefusal
-returns-3 c = let d = c .before .before in let b = d .before .before in skip _ _ _ _ (yes (b .before .sheet-ok .ensures) (b .if1 .left)) (skip _ _ _ _ (yes (arrays (d .before)) (d .if2 .left)) (stop _ _ _ (no (c .before .stored-ok .ensures) (c .if3 .taken))))
+unfolding loadTable
+returns-3 c = let d = c .before .before in let b = d .before .before in passes _ _ (yes (b .before .sheet-ok .ensures) (b .if1 .left)) (passes _ _ (yes (arrays (d .before)) (d .if2 .left)) (fails _ _ (no (c .before .stored-ok .ensures) (c .if3 .taken))))
 
 -- and keys that keep them
 returns-4 : tie.Need-returns-4
-unfolding loadRefusal
-returns-4 c = let d = c .before .before in let b = d .before .before in skip _ _ _ _ (yes (b .before .sheet-ok .ensures) (b .if1 .left)) (skip _ _ _ _ (yes (arrays (d .before)) (d .if2 .left)) (skip _ _ _ _ (yes (c .before .stored-ok .ensures) (c .if3 .left)) refl))
+unfolding loadTable
+returns-4 c = let d = c .before .before in let b = d .before .before in passes _ _ (yes (b .before .sheet-ok .ensures) (b .if1 .left)) (passes _ _ (yes (arrays (d .before)) (d .if2 .left)) (passes _ _ (yes (c .before .stored-ok .ensures) (c .if3 .left)) no-rows))
 
 pub load-refusal-spec : {M : Type 1} → statement M
 load-refusal-spec =

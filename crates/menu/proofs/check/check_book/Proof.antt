@@ -1,9 +1,7 @@
-use mathlib.Core.Path.{refl, sym, _∙_, ap}
 use native.Mathlib.Omega.{arith}
-use Rattle.laws.specs.Refusals.{stop, skip}
-use Rattle.laws.specs.Tests.{no, yes}
+use Rattle.laws.specs.Rows.{rows}
+use Rattle.laws.specs.Tests.{yes}
 use Rattle.sheet.specs.Checked.{checked}
-use Rattle.menu.specs.Readings.{checkBook}
 use Rattle.menu.proofs.Checks.{lengths-at}
 use borrow.Author.Needs.{needs}
 use Rattle.menu.proofs.check.check_book.Statement.{statement}
@@ -13,15 +11,13 @@ sheet-ok-requires : tie.Need-sheet-ok-requires
 sheet-ok-requires c κs = search needs
 
 returns : tie.Need-returns
-unfolding checkBook
-returns c = stop _ 1 _ (no (c .before .sheet-ok .ensures) (c .if1 .taken))
+returns c = search (rows, lengths-at)
 
 book-ok-requires : tie.Need-book-ok-requires
 book-ok-requires c κs = search needs
 
 returns-2 : tie.Need-returns-2
-unfolding checkBook
-returns-2 c = skip _ 1 _ 2 (yes (c .before .before .before .sheet-ok .ensures) (c .before .before .if1 .left)) (stop _ 2 _ (no (c .before .book-ok .ensures) (c .if2 .taken)))
+returns-2 c = search (rows, lengths-at)
 
 key-count-requires : tie.Need-key-count-requires
 key-count-requires c κs = let w = checked _ (yes (c .before .before .before .sheet-ok .ensures) (c .before .before .if1 .left)) in omega arith
@@ -30,26 +26,16 @@ lengths-ok-requires : tie.Need-lengths-ok-requires
 lengths-ok-requires c κs = search needs
 
 returns-3 : tie.Need-returns-3
-unfolding checkBook
-returns-3 c = skip _ 1 _ 3 (yes (c .before .before .before .before .before .before .sheet-ok .ensures) (c .before .before .before .before .before .if1 .left)) (skip _ 2 _ 3 (yes (c .before .before .before .before .book-ok .ensures) (c .before .before .before .if2 .left)) (stop _ 3 _ (no (lengths-at _ _ (c .before .before .key-count .ensures) (c .before .lengths-ok .ensures)) (c .if3 .taken))))
+returns-3 c = search (rows, lengths-at)
 
 keys-ok-requires : tie.Need-keys-ok-requires
 keys-ok-requires c κs = search needs
 
 returns-4 : tie.Need-returns-4
-unfolding checkBook
-returns-4 c = skip _ 1 _ 4 (yes (c .before .before .before .before .before .before .before .before .sheet-ok .ensures) (c .before .before .before .before .before .before .before .if1 .left)) (skip _ 2 _ 4 (yes (c .before .before .before .before .before .before .book-ok .ensures) (c .before .before .before .before .before .if2 .left)) (skip _ 3 _ 4 (yes (lengths-at _ _ (c .before .before .before .before .key-count .ensures) (c .before .before .before .lengths-ok .ensures)) (c .before .before .if3 .left)) (stop _ 4 _ (no (c .before .keys-ok .ensures) (c .if4 .taken)))))
-
-ok-requires : tie.Need-ok-requires
-ok-requires c κs = checked _ (yes (c .before .before .before .before .before .before .before .before .sheet-ok .ensures) (c .before .before .before .before .before .before .before .if1 .left))
+returns-4 c = search (rows, lengths-at)
 
 returns-5 : tie.Need-returns-5
-unfolding checkBook
-returns-5 c = skip _ 1 _ 5 (yes (c .before .before .before .before .before .before .before .before .before .before .sheet-ok .ensures) (c .before .before .before .before .before .before .before .before .before .if1 .left)) (skip _ 2 _ 5 (yes (c .before .before .before .before .before .before .before .before .book-ok .ensures) (c .before .before .before .before .before .before .before .if2 .left)) (skip _ 3 _ 5 (yes (lengths-at _ _ (c .before .before .before .before .before .before .key-count .ensures) (c .before .before .before .before .before .lengths-ok .ensures)) (c .before .before .before .before .if3 .left)) (skip _ 4 _ 5 (yes (c .before .before .before .keys-ok .ensures) (c .before .before .if4 .left)) (stop _ 5 _ (no (c .before .ok .ensures) (c .if5 .taken))))))
-
-returns-6 : tie.Need-returns-6
-unfolding checkBook
-returns-6 c = skip _ 1 _ 0 (yes (c .before .before .before .before .before .before .before .before .before .before .sheet-ok .ensures) (c .before .before .before .before .before .before .before .before .before .if1 .left)) (skip _ 2 _ 0 (yes (c .before .before .before .before .before .before .before .before .book-ok .ensures) (c .before .before .before .before .before .before .before .if2 .left)) (skip _ 3 _ 0 (yes (lengths-at _ _ (c .before .before .before .before .before .before .key-count .ensures) (c .before .before .before .before .before .lengths-ok .ensures)) (c .before .before .before .before .if3 .left)) (skip _ 4 _ 0 (yes (c .before .before .before .keys-ok .ensures) (c .before .before .if4 .left)) (skip _ 5 _ 0 (yes (c .before .ok .ensures) (c .if5 .left)) refl))))
+returns-5 c = search (rows, lengths-at)
 
 pub check-book-spec : {M : Type 1} → statement M
 check-book-spec =
@@ -64,6 +50,4 @@ check-book-spec =
     returns-3
     keys-ok-requires
     returns-4
-    ok-requires
-    returns-5
-    returns-6)
+    returns-5)

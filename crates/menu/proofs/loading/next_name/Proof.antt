@@ -1,4 +1,4 @@
-use mathlib.Core.Path.{refl, sym, _∙_, ap}
+use mathlib.Core.Path.{_∙_}
 use native.Mathlib.Omega.{arith}
 use Rattle.laws.specs.Tests.{no, yes}
 use Rattle.sheet.specs.Checked.{checked}
@@ -41,7 +41,7 @@ part-result-end-2 : tie.Need-part-result-end-2
 part-result-end-2 c = search needs
 
 returns-3 : tie.Need-returns-3
-returns-3 c = next-past _ _ _ (c .before .before .animation-count .ensures) (c .before .if2 .left)
+returns-3 c = next-past _ _ _ (c .before .before .animation-count .ensures) (yes (c .before .before .before .before .sheet-ok .ensures) (c .before .before .before .if1 .left)) (c .before .if2 .left)
 
 pub next-name-spec : {M : Type 1} → statement M
 next-name-spec =

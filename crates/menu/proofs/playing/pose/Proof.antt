@@ -1,3 +1,4 @@
+use Rattle.menu.specs.Rows.{poseTable}
 use Rattle.menu.proofs.Results.{played-not, played}
 use Rattle.menu.proofs.Checks.{player-ready}
 use Rattle.menu.specs.Calls.{poseOf}
@@ -13,6 +14,7 @@ unfolding poseOf
 returns c = played-not _ _ (c .before .pose-refusal .ensures) (c .if1 .taken)
 
 pose-requires : tie.Need-pose-requires
+unfolding poseTable
 pose-requires c κs = player-ready _ _ _ (c .before .pose-refusal .ensures) (c .if1 .left) .sheet
 
 returns-2 : tie.Need-returns-2

@@ -1,3 +1,4 @@
+use Rattle.menu.specs.Rows.{tickTable}
 use Rattle.menu.proofs.Results.{ticked-not, ticked}
 use Rattle.menu.proofs.Checks.{player-ready, selected}
 use Rattle.menu.specs.Calls.{tickOf}
@@ -13,6 +14,7 @@ unfolding tickOf
 returns c = ticked-not _ _ (c .before .tick-refusal .ensures) _ (c .if1 .taken)
 
 tick-requires : tie.Need-tick-requires
+unfolding tickTable
 tick-requires c κs = selected (player-ready _ _ _ (c .before .tick-refusal .ensures) (c .if1 .left))
 
 returns-2 : tie.Need-returns-2

@@ -1,4 +1,5 @@
-use Rattle.menu.proofs.Checks.{book-ready}
+use Rattle.menu.specs.Rows.{readAllTable}
+use Rattle.menu.proofs.Checks.{reading-ready}
 use Rattle.menu.proofs.Answers.{tables-refused, tables-long, tables-made}
 use borrow.Author.Needs.{needs}
 use Rattle.menu.proofs.readings.read_all.Statement.{statement}
@@ -20,7 +21,8 @@ active-in-requires : tie.Need-active-in-requires
 active-in-requires c κs = search needs
 
 read-all-requires : tie.Need-read-all-requires
-read-all-requires c κs = (book-ready _ _ _ _ _ (c .before .before .before .before .read-all-refusal .ensures) (c .before .before .before .if1 .left) .ready, tables-long _ _ _ _ _ _ _ _ _ (c .before .before .before .before .read-all-refusal .ensures) (c .before .before .before .if1 .left))
+unfolding readAllTable
+read-all-requires c κs = (reading-ready _ _ _ _ _ (c .before .before .before .before .read-all-refusal .ensures) (c .before .before .before .if1 .left) .ready, tables-long _ _ _ _ _ _ _ _ _ (c .before .before .before .before .read-all-refusal .ensures) (c .before .before .before .if1 .left))
 
 same-length-3 : tie.Need-same-length-3
 same-length-3 c = search needs

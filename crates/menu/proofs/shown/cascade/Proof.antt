@@ -1,4 +1,5 @@
-use Rattle.menu.proofs.Checks.{book-ready}
+use Rattle.menu.specs.Rows.{cascadeTable}
+use Rattle.menu.proofs.Checks.{reading-ready}
 use Rattle.menu.proofs.Answers.{rows-refused, rows-long, rows-made}
 use borrow.Author.Needs.{needs}
 use Rattle.menu.proofs.shown.cascade.Statement.{statement}
@@ -23,7 +24,8 @@ active-in-requires : tie.Need-active-in-requires
 active-in-requires c κs = search needs
 
 cascade-requires : tie.Need-cascade-requires
-cascade-requires c κs = (book-ready _ _ _ _ _ (c .before .before .before .before .before .cascade-refusal .ensures) (c .before .before .before .before .if1 .left) .ready, rows-long _ _ _ _ _ _ _ _ _ _ (c .before .before .before .before .before .cascade-refusal .ensures) (c .before .before .before .before .if1 .left))
+unfolding cascadeTable
+cascade-requires c κs = (reading-ready _ _ _ _ _ (c .before .before .before .before .before .cascade-refusal .ensures) (c .before .before .before .before .if1 .left) .ready, rows-long _ _ _ _ _ _ _ _ _ _ (c .before .before .before .before .before .cascade-refusal .ensures) (c .before .before .before .before .if1 .left))
 
 same-length-4 : tie.Need-same-length-4
 same-length-4 c = search needs

@@ -1,54 +1,55 @@
-use mathlib.Core.Path.{refl, sym, _∙_, ap}
+use mathlib.Core.Path.{_∙_}
 use native.Mathlib.Omega.{arith}
-use Rattle.laws.specs.Refusals.{stop, skip}
-use Rattle.menu.proofs.Checks.{book-stop, book-go, book-ready}
-use Rattle.menu.specs.Readings.{resolvePaneOf, paneRest}
+use Rattle.laws.specs.Rows.{stops, goes, passes, fails, no-rows}
+use Rattle.menu.specs.Rows.{resolvePaneTable, paneRows}
+use Rattle.menu.proofs.Checks.{reading-ready}
+use Rattle.menu.specs.Readings.{resolvePaneOf}
 use Rattle.menu.proofs.Answers.{pane-refused, pane-made, one-no, one-yes, one-below, seven}
 use borrow.Author.Needs.{needs}
 use Rattle.menu.proofs.single.resolve_pane.Statement.{statement}
 use Rattle.menu.proofs.single.resolve_pane.Tie as tie
 
-check-book-requires : tie.Need-check-book-requires
-check-book-requires c κs = search needs
+check-reading-requires : tie.Need-check-reading-requires
+check-reading-requires c κs = search needs
 
 no-pane-requires : tie.Need-no-pane-requires
 no-pane-requires c κs = search needs
 
 returns : tie.Need-returns
-unfolding resolvePaneOf
-returns c = c .no-pane .ensures ∙ pane-refused (book-stop _ _ _ _ _ (c .before .before .check-book .ensures) (c .before .if1 .taken)) _ _ _ (c .before .if1 .taken)
+unfolding resolvePaneOf resolvePaneTable
+returns c = c .no-pane .ensures ∙ pane-refused (stops _ _ (c .before .before .check-reading .ensures) (c .before .if1 .taken)) _ _ _ (c .before .if1 .taken)
 
 pane-count-requires : tie.Need-pane-count-requires
-pane-count-requires c κs = (let w = book-ready _ _ _ _ 0 (c .before .check-book .ensures) (c .if1 .left) .ready .book in omega arith)
+pane-count-requires c κs = (let w = reading-ready _ _ _ _ _ (c .before .check-reading .ensures) (c .if1 .left) .ready .book in omega arith)
 
 no-pane-requires-2 : tie.Need-no-pane-requires-2
 no-pane-requires-2 c κs = search needs
 
 returns-2 : tie.Need-returns-2
-unfolding resolvePaneOf paneRest
-returns-2 c = c .no-pane2 .ensures ∙ pane-refused (book-go _ _ _ _ _ (c .before .before .before .before .check-book .ensures) (c .before .before .before .if1 .left) (stop _ 7 _ (one-no (c .before .before .before .before .before .before .before .before .before .before .args .pane) (c .before .before .pane-count .ensures) (c .before .if2 .taken)))) _ _ _ seven
+unfolding resolvePaneOf resolvePaneTable paneRows
+returns-2 c = c .no-pane2 .ensures ∙ pane-refused (goes _ _ tt (c .before .before .before .before .check-reading .ensures) (c .before .before .before .if1 .left) (fails 7 _ (one-no (c .before .before .before .before .before .before .before .before .before .before .args .pane) (c .before .before .pane-count .ensures) (c .before .if2 .taken)))) _ _ _ seven
 
 active-in-requires : tie.Need-active-in-requires
 active-in-requires c κs = search needs
 
 resolve-visible-requires : tie.Need-resolve-visible-requires
-resolve-visible-requires c κs = (book-ready _ _ _ _ 0 (c .before .before .before .before .check-book .ensures) (c .before .before .before .if1 .left) .ready, one-below (c .before .before .before .before .before .before .before .before .before .before .args .pane) (c .before .before .pane-count .ensures) (c .before .if2 .left))
+resolve-visible-requires c κs = (reading-ready _ _ _ _ _ (c .before .before .before .before .check-reading .ensures) (c .before .before .before .if1 .left) .ready, one-below (c .before .before .before .before .before .before .before .before .before .before .args .pane) (c .before .before .pane-count .ensures) (c .before .if2 .left))
 
 resolve-alpha-requires : tie.Need-resolve-alpha-requires
-resolve-alpha-requires c κs = (book-ready _ _ _ _ 0 (c .before .before .before .before .before .check-book .ensures) (c .before .before .before .before .if1 .left) .ready, one-below (c .before .before .before .before .before .before .before .before .before .before .before .args .pane) (c .before .before .before .pane-count .ensures) (c .before .before .if2 .left))
+resolve-alpha-requires c κs = (reading-ready _ _ _ _ _ (c .before .before .before .before .before .check-reading .ensures) (c .before .before .before .before .if1 .left) .ready, one-below (c .before .before .before .before .before .before .before .before .before .before .before .args .pane) (c .before .before .before .pane-count .ensures) (c .before .before .if2 .left))
 
 resolve-transform-requires : tie.Need-resolve-transform-requires
-resolve-transform-requires c κs = (book-ready _ _ _ _ 0 (c .before .before .before .before .before .before .check-book .ensures) (c .before .before .before .before .before .if1 .left) .ready, one-below (c .before .before .before .before .before .before .before .before .before .before .before .before .args .pane) (c .before .before .before .before .pane-count .ensures) (c .before .before .before .if2 .left))
+resolve-transform-requires c κs = (reading-ready _ _ _ _ _ (c .before .before .before .before .before .before .check-reading .ensures) (c .before .before .before .before .before .if1 .left) .ready, one-below (c .before .before .before .before .before .before .before .before .before .before .before .before .args .pane) (c .before .before .before .before .pane-count .ensures) (c .before .before .before .if2 .left))
 
 returns-3 : tie.Need-returns-3
-unfolding resolvePaneOf paneRest
-returns-3 c = pane-made (book-go _ _ _ _ _ (c .before .before .before .before .before .before .before .check-book .ensures) (c .before .before .before .before .before .before .if1 .left) (skip _ 7 _ 0 (one-yes (c .before .before .before .before .before .before .before .before .before .before .before .before .before .args .pane) (c .before .before .before .before .before .pane-count .ensures) (c .before .before .before .before .if2 .left)) refl)) (rw (← c .before .before .before .active-in .ensures) (c .resolve-transform .ensures)) (rw (← c .before .before .before .active-in .ensures) (c .before .before .resolve-visible .ensures)) (rw (← c .before .before .before .active-in .ensures) (c .before .resolve-alpha .ensures))
+unfolding resolvePaneOf resolvePaneTable paneRows
+returns-3 c = pane-made (goes _ _ tt (c .before .before .before .before .before .before .before .check-reading .ensures) (c .before .before .before .before .before .before .if1 .left) (passes 7 _ (one-yes (c .before .before .before .before .before .before .before .before .before .before .before .before .before .args .pane) (c .before .before .before .before .before .pane-count .ensures) (c .before .before .before .before .if2 .left)) no-rows)) (rw (← c .before .before .before .active-in .ensures) (c .resolve-transform .ensures)) (rw (← c .before .before .before .active-in .ensures) (c .before .before .resolve-visible .ensures)) (rw (← c .before .before .before .active-in .ensures) (c .before .resolve-alpha .ensures))
 
 pub resolve-pane-spec : {M : Type 1} → statement M
 resolve-pane-spec =
     tie.close
     (tie.spec
-    check-book-requires
+    check-reading-requires
     no-pane-requires
     returns
     pane-count-requires

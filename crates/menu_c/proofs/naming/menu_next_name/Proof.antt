@@ -1,8 +1,9 @@
 use mathlib.Core.Path.{sym, _∙_, ap}
 use lib.ListN.{length}
 use Rattle.menu_c.specs.Long.{next-long}
-use Rattle.menu_c.specs.Naming.{nextNameInto}
+use Rattle.menu_c.specs.Naming.{nextNameInto, nextNameOutTable}
 use Rattle.menu_c.proofs.Handed.{into-refused, into-given}
+use Rattle.menu.specs.Rows.{nextNameTable}
 use borrow.Author.Needs.{needs}
 use Rattle.menu_c.proofs.naming.menu_next_name.Statement.{statement}
 use Rattle.menu_c.proofs.naming.menu_next_name.Tie as tie
@@ -11,8 +12,8 @@ next-refusal-requires : tie.Need-next-refusal-requires
 next-refusal-requires c κs = search needs
 
 returns : tie.Need-returns
-unfolding nextNameInto
-returns c = into-refused _ _ (c .before .next-refusal .ensures) (c .if1 .taken)
+unfolding nextNameInto nextNameOutTable
+returns c = into-refused _ _ _ (c .before .next-refusal .ensures) (c .if1 .taken)
 
 next-name-requires : tie.Need-next-name-requires
 next-name-requires c κs = search needs
@@ -24,8 +25,8 @@ same-length : tie.Need-same-length
 same-length c = search needs
 
 returns-2 : tie.Need-returns-2
-unfolding nextNameInto
-returns-2 c = into-given _ _ (c .before .before .before .before .before .before .next-refusal .ensures) (c .before .before .before .before .before .if1 .left) (c .before .before .before .before .next-name .ensures) (c .before .before .hand-out .ensures)
+unfolding nextNameInto nextNameOutTable nextNameTable
+returns-2 c = into-given _ _ _ (c .before .before .before .before .before .before .next-refusal .ensures) tt (c .before .before .before .before .before .if1 .left) (c .before .before .before .before .next-name .ensures) (c .before .before .hand-out .ensures)
 
 pub menu-next-name-spec : {M : Type 1} → statement M
 menu-next-name-spec =

@@ -1,8 +1,9 @@
 use mathlib.Core.Path.{sym, _∙_, ap}
 use lib.ListN.{length}
 use Rattle.menu_c.specs.Long.{texture-long}
-use Rattle.menu_c.specs.Naming.{textureNameInto}
+use Rattle.menu_c.specs.Naming.{textureNameInto, textureNameOutTable}
 use Rattle.menu_c.proofs.Handed.{into-refused, into-given}
+use Rattle.menu.specs.Rows.{textureNameTable, layerRows}
 use borrow.Author.Needs.{needs}
 use Rattle.menu_c.proofs.naming.menu_texture_name.Statement.{statement}
 use Rattle.menu_c.proofs.naming.menu_texture_name.Tie as tie
@@ -11,8 +12,8 @@ slot-refusal-requires : tie.Need-slot-refusal-requires
 slot-refusal-requires c κs = search needs
 
 returns : tie.Need-returns
-unfolding textureNameInto
-returns c = into-refused _ _ (c .before .slot-refusal .ensures) (c .if1 .taken)
+unfolding textureNameInto textureNameOutTable
+returns c = into-refused _ _ _ (c .before .slot-refusal .ensures) (c .if1 .taken)
 
 texture-name-requires : tie.Need-texture-name-requires
 texture-name-requires c κs = search needs
@@ -24,8 +25,8 @@ same-length : tie.Need-same-length
 same-length c = search needs
 
 returns-2 : tie.Need-returns-2
-unfolding textureNameInto
-returns-2 c = into-given _ _ (c .before .before .before .before .before .before .slot-refusal .ensures) (c .before .before .before .before .before .if1 .left) (c .before .before .before .before .texture-name .ensures) (c .before .before .hand-out .ensures)
+unfolding textureNameInto textureNameOutTable textureNameTable layerRows
+returns-2 c = into-given _ _ _ (c .before .before .before .before .before .before .slot-refusal .ensures) tt (c .before .before .before .before .before .if1 .left) (c .before .before .before .before .texture-name .ensures) (c .before .before .hand-out .ensures)
 
 pub menu-texture-name-spec : {M : Type 1} → statement M
 menu-texture-name-spec =

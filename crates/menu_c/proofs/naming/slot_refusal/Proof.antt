@@ -1,16 +1,18 @@
-use mathlib.Core.Path.{ap}
-use Rattle.menu.specs.Readings.{resolveSrtOf, layerOf}
-use Rattle.menu.specs.declared.readings.ResolvedSrt.{ResolvedSrt}
+use mathlib.Core.Path.{ap, _∙_}
+use Rattle.menu.specs.Slots.{slot-number}
+use Rattle.menu.specs.declared.readings.ReadOne.{ReadOne}
 use borrow.Author.Needs.{needs}
 use Rattle.menu_c.proofs.naming.slot_refusal.Statement.{statement}
 use Rattle.menu_c.proofs.naming.slot_refusal.Tie as tie
 
-resolve-srt-requires : tie.Need-resolve-srt-requires
-resolve-srt-requires c κs = search needs
+slot-channel-requires : tie.Need-slot-channel-requires
+slot-channel-requires c κs = search needs
+
+read-material-requires : tie.Need-read-material-requires
+read-material-requires c κs = search needs
 
 returns : tie.Need-returns
-unfolding resolveSrtOf layerOf
-returns c = ap (λ (g : ResolvedSrt). g .refusal) (c .resolve-srt .ensures)
+returns c = ap (λ (g : ReadOne). g .refusal) (rw (c .before .slot-channel .ensures) at (c .read-material .ensures)) ∙ slot-number _ _ _ _ _ _
 
 pub slot-refusal-spec : {M : Type 1} → statement M
-slot-refusal-spec = tie.close (tie.spec resolve-srt-requires returns)
+slot-refusal-spec = tie.close (tie.spec slot-channel-requires read-material-requires returns)

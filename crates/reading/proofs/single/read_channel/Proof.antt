@@ -1,6 +1,6 @@
 use mathlib.Core.Path.{sym, _∙_}
 use Rattle.reading.specs.Reading.{reading, targetReading}
-use Rattle.reading.specs.Overrides.{last-target-within}
+use Rattle.reading.specs.LastTarget.{last-target-only}
 use Rattle.reading.proofs.Pass.{row-ready}
 use borrow.Author.Needs.{needs}
 use Rattle.reading.proofs.single.read_channel.Statement.{statement}
@@ -44,7 +44,7 @@ returns-2 c = rw (c .before .before .before .before .active .given .1, ← c .be
 
 -- src/single.rt:51:9
 target-row-requires : tie.Need-target-row-requires
-target-row-requires c κs = (c .before .before .before .before .before .before .before .before .before .before .before .before .pre .0 .sheet, (last-target-within _ _ _ _ _ (sym (c .before .before .before .last-target .ensures) ∙ c .before .t .given .1)))
+target-row-requires c κs = (c .before .before .before .before .before .before .before .before .before .before .before .before .pre .0 .sheet, (last-target-only _ _ _ _ _ (sym (c .before .before .before .last-target .ensures) ∙ c .before .t .given .1) .within))
 
 -- src/single.rt:52:9
 texture-count-requires : tie.Need-texture-count-requires
@@ -52,7 +52,7 @@ texture-count-requires c κs = search needs
 
 -- src/single.rt:53:5
 row-reading-requires : tie.Need-row-reading-requires
-row-reading-requires c κs = row-ready _ _ (c .before .before .before .before .before .before .before .before .before .before .before .before .before .before .pre .0) (last-target-within _ _ _ _ _ (sym (c .before .before .before .before .before .last-target .ensures) ∙ c .before .before .before .t .given .1)) (c .before .target-row .ensures)
+row-reading-requires c κs = row-ready _ _ (c .before .before .before .before .before .before .before .before .before .before .before .before .before .before .pre .0) (last-target-only _ _ _ _ _ (sym (c .before .before .before .before .before .last-target .ensures) ∙ c .before .before .before .t .given .1) .within) (c .before .target-row .ensures)
 
 -- src/single.rt:33:1
 returns-3 : tie.Need-returns-3

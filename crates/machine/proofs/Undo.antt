@@ -1,0 +1,64 @@
+-- An undo keeps the player an image of the machine. Assumes nothing.
+use mathlib.Core.Path.{_≡_, _∙_}
+use mathlib.Core.Bool.{true}
+use mathlib.Core.List.{List, [], _∷_}
+use Prim.Native.Nat.{ℕ, zero, suc, _<_, _^_}
+use native.Mathlib.Omega.{arith}
+use native.Mathlib.Numerals.{add-one}
+use lib.ListN.{length}
+use Rattle.laws.specs.Rows.{unless, declines}
+use Rattle.sheet.specs.Sheet.{sheetOk}
+use Rattle.player.specs.declared.journal.Journal.{Journal}
+use Rattle.player.specs.Keys.{Keys, keyAt, get-put, put-put, put-get}
+use Rattle.player.specs.View.{View}
+use Rattle.player.specs.Edit.{Edit, place, edited, madeEdit}
+use Rattle.player.specs.Undo.{returnsOk, undoRows, undoEntry, undoneKeys, undonePlayer}
+use Rattle.menu.specs.Rows.{undoTable}
+use Rattle.menu.specs.Calls.{entryFor, undoOf}
+use Rattle.machine.specs.Calls.{undo}
+use Rattle.machine.specs.Plain.{Plain, replay}
+use Rattle.machine.proofs.Invariant.{Fair, Good}
+use Rattle.machine.proofs.Checks.{state-passes}
+use Rattle.machine.proofs.Kept.{Kept, suc-not, less-one, later}
+
+module _ (s : List ℕ) (ks : Keys) where
+  -- an edit that was made is taken back: the key is as the entry left it, and what it returns keeps the key rules
+  taken-back : (es : List Edit) (e : Edit) → Fair s (replay s ks es) e →
+      undoneKeys s (replay s ks (e ∷ es)) (entryFor s (replay s ks es) (e .track) (e .key) (e .request)) ≡ replay s ks es
+  unfolding undoneKeys replay madeEdit entryFor
+  taken-back es e f = put-put _ _ _ _ ∙ put-get _ _
+
+  undo-fits : (es : List Edit) (e : Edit) → Fair s (replay s ks es) e →
+      let x = entryFor s (replay s ks es) (e .track) (e .key) (e .request) in
+      returnsOk s (replay s ks (e ∷ es)) x (x .after) (x .before) ≡ true
+  unfolding returnsOk replay madeEdit entryFor
+  undo-fits es e f = rw (get-put _ _ (edited s (replay s ks es) (e .track) (e .key) (e .request)) (f .within), f .new, put-put _ _ (edited s (replay s ks es) (e .track) (e .key) (e .request)) (keyAt (replay s ks es) (place s (e .track) (e .key))), put-get (replay s ks es) (place s (e .track) (e .key)), f .sane .rules)
+
+module _ (s : List ℕ) (n : ℕ) (j : Journal) (ok : sheetOk s ≡ true) (few : n < 2 ^ 40) (ks : Keys) (a d c : ℕ) (v : View) where
+  abbrev M : List Edit → List Edit → ℕ → Plain
+  M es us r = record { loaded = ks; standing = es; redo = us; reach = r; accepted = a; undone = d; redone = c; view = v }
+
+  pub undo-kept : (es us : List Edit) (r : ℕ) → Good s n (M es us r) j → Kept s n undo (M es us r) j
+  unfolding undoOf undoTable undoRows undoEntry undonePlayer declines unless
+  undo-kept es us zero g = record { journal = j; same = rw (state-passes s n (M es us 0) j ok (omega arith) g _); good = later s n (M es us 0) j g }
+  undo-kept [] us (suc r) g = absurd (g .back)
+  undo-kept (e ∷ es) us (suc r) g =
+      let f = g .back .0 .fair in
+      record {
+        journal = j;
+        same =
+            rw (state-passes s n (M (e ∷ es) us (suc r)) j ok (omega arith) g _, less-one (length es), g .back .0 .is, undo-fits s ks es e f, suc-not r)
+            (cc (taken-back s ks es e f, add-one (length us), less-one r));
+        good =
+            record {
+              whole = g .whole;
+              sane = f .sane;
+              seen = g .seen;
+              back = g .back .1;
+              fore = (g .back .0, g .fore);
+              room = omega arith;
+              below = omega arith;
+              sums = omega arith;
+              few = omega arith;
+            };
+      }

@@ -1,0 +1,31 @@
+-- The number of a declined texture name (document 01, "Channels": "where that call would be declined it is an empty part, and the number comes from
+-- reading the slot"): for every slot it is what a single reading of the slot's channel answers. Assumes nothing.
+use Prim.Native.Nat.{ℕ, _+_, _<_, _≤_}
+use mathlib.Core.Bool.{and-false}
+use mathlib.Core.Path.{_≡_, sym, _∙_}
+use mathlib.Core.List.{List}
+use borrow.Author.Tests.{lt-ltb, le-ltb}
+use lib.Dec.{ltb}
+use Rattle.laws.specs.Rows.{Hold, declines, fails, passes, no-rows, joined}
+use Rattle.book.specs.Sizes.{materialCount}
+use Rattle.channel.specs.Channel.{firstTexture, slotChannel}
+use Rattle.channel.specs.Slot.{slot-exactly}
+use Rattle.player.specs.declared.Player.{Player}
+use Rattle.player.specs.Keys.{Keys}
+use Rattle.menu.specs.Rows.{readingRows, materialChannelRows, layerRows, readMaterialTable, textureNameTable}
+use Rattle.menu.specs.Readings.{oneOf, readMaterialOf}
+
+module _ (s b : List ℕ) (p : Player) (ks : Keys) (m : ℕ) where
+  pub slot-number : (slot : ℕ) → readMaterialOf s b p ks m (slotChannel slot) .refusal ≡ declines (textureNameTable s b p ks m slot)
+  unfolding readMaterialOf readMaterialTable textureNameTable materialChannelRows layerRows oneOf
+  slot-number slot = rw (slot-exactly slot)
+
+  -- a slot from 3 up is declined by 7, where no earlier row declines
+  pub no-such-slot : (slot : ℕ) → 3 ≤ slot → Hold (readingRows s b p ks) → declines (textureNameTable s b p ks m slot) ≡ 7
+  unfolding textureNameTable layerRows
+  no-such-slot slot l h = joined (readingRows s b p ks) _ h ∙ sym (fails 7 _ (rw (le-ltb slot 3 l) (and-false (ltb m (materialCount b)))))
+
+  -- though the channel that comes next is one: it is another family's, and a reading of it is not declined
+  pub next-channel-reads : Hold (readingRows s b p ks) → m < materialCount b → declines (readMaterialTable s b p ks m (firstTexture + 3)) ≡ 0
+  unfolding readMaterialTable materialChannelRows
+  next-channel-reads h l = joined (readingRows s b p ks) _ h ∙ sym (passes 7 _ (rw (lt-ltb m (materialCount b) l)) no-rows)

@@ -1,0 +1,4 @@
+pub mod Order
+pub mod Numbers
+pub mod Kept
+pub mod Exactly

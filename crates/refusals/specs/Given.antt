@@ -1,0 +1,111 @@
+-- What an outward call answers of its refusal, and what it leaves of all that was lent to it, by the definitions that the contracts cite.
+-- Definitions only.
+use Prim.Native.Nat.{ℕ}
+use mathlib.Core.Path.{_≡_}
+use mathlib.Core.List.{List, [], _∷_}
+use lib.Ieee.{Float}
+use Rattle.geometry.specs.Calls.{uvsOf, placedOf, movedOf, turnedOf}
+use Rattle.player.specs.declared.Player.{Player}
+use Rattle.player.specs.Keys.{Keys}
+use Rattle.menu.specs.Calls.{loadedOf, nextNameOf}
+use Rattle.menu_c.specs.Naming.{nextNameInto, textureNameInto}
+use Rattle.machine.specs.Asks.{Ask, paneChannel, materialChannel, all, pane, layer, texture, cascade, Told, one, tables, resolvedPane, resolvedLayer, name, cascaded}
+use Rattle.machine.specs.Calls.{Call, play, pose, tick, edit, undo, redo, ask, Answer, number, ticked, told, State, stepP}
+use Rattle.refusals.specs.Outward.{Outward, made, load, nextName, nextNameOut, textureNameOut, uvs, corners, translate, rotatePoint}
+
+-- ---- the number
+
+-- what an answer says of the refusal n. A resolved texture name has no number: where the call is declined it is empty.
+abbrev pub Says : Answer → ℕ → Type 0
+Says (number m) n = m ≡ n
+Says (ticked m a k) n = m ≡ n
+Says (told (one r)) n = r .refusal ≡ n
+Says (told (tables r)) n = r .refusal ≡ n
+Says (told (resolvedPane r)) n = r .refusal ≡ n
+Says (told (resolvedLayer r)) n = r .refusal ≡ n
+Says (told (cascaded r)) n = r .refusal ≡ n
+Says (told (name k)) n = (n ≡ 0 → ⊥) → k ≡ []
+
+abbrev pub Answers : List ℕ → Outward → ℕ → Type 0
+Answers s (made c t) n = Says (stepP s c t .1) n
+Answers s (load ks) n = loadedOf s ks .refusal ≡ n
+Answers s (nextName a) n = (n ≡ 0 → ⊥) → nextNameOf s a ≡ []
+Answers s (nextNameOut a o) n = nextNameInto s a o .refusal ≡ n
+Answers s (textureNameOut b m slot t o) n = textureNameInto s b (t .player) (t .keys) m slot o .refusal ≡ n
+Answers s (uvs ls ss o) n = uvsOf ls ss o .refusal ≡ n
+Answers s (corners c size ox oy r) n = placedOf c size ox oy r .refusal ≡ n
+Answers s (translate k d) n = movedOf k d .refusal ≡ n
+Answers s (rotatePoint p c r) n = turnedOf p c r .refusal ≡ n
+
+-- ---- what was lent
+
+-- The player, which goes in by value and comes back; lent bytes, and lent numbers, keys first. A load takes no player.
+pub record Lent : Type 0 where
+  pub player : List Player
+  pub bytes : List (List ℕ)
+  pub numbers : List (List Float)
+
+-- a player with its keys, and the outputs of a reading behind them
+abbrev pub lentWith : State → List (List ℕ) → List (List Float) → Lent
+lentWith t bs ns = record { player = t .player ∷ []; bytes = bs; numbers = t .keys .frames ∷ t .keys .values ∷ t .keys .slopes ∷ ns }
+
+abbrev pub lentKeys : Keys → Lent
+lentKeys ks = record { player = []; bytes = []; numbers = ks .frames ∷ ks .values ∷ ks .slopes ∷ [] }
+
+abbrev pub lentOut : List (List ℕ) → List (List Float) → Lent
+lentOut bs ns = record { player = []; bytes = bs; numbers = ns }
+
+-- before a reading, and after it
+abbrev pub lentTo : State → Ask → Lent
+lentTo t (paneChannel i c) = lentWith t [] []
+lentTo t (materialChannel m c) = lentWith t [] []
+lentTo t (all marks numbers) = lentWith t (marks ∷ []) (numbers ∷ [])
+lentTo t (pane i) = lentWith t [] []
+lentTo t (layer m k) = lentWith t [] []
+lentTo t (texture m k) = lentWith t [] []
+lentTo t (cascade visible alpha influence) = lentWith t (visible ∷ []) (alpha ∷ influence ∷ [])
+
+abbrev pub leftBy : State → Told → Lent
+leftBy t (one r) = lentWith t [] []
+leftBy t (tables r) = lentWith t (r .marks ∷ []) (r .numbers ∷ [])
+leftBy t (resolvedPane r) = lentWith t [] []
+leftBy t (resolvedLayer r) = lentWith t [] []
+leftBy t (name k) = lentWith t [] []
+leftBy t (cascaded r) = lentWith t (r .visible ∷ []) (r .alpha ∷ r .influence ∷ [])
+
+abbrev pub callBefore : Call → State → Lent
+callBefore (play a) t = lentWith t [] []
+callBefore (pose a x) t = lentWith t [] []
+callBefore (tick dt fps) t = lentWith t [] []
+callBefore (edit track key r) t = lentWith t [] []
+callBefore undo t = lentWith t [] []
+callBefore redo t = lentWith t [] []
+callBefore (ask b q) t = lentTo t q
+
+abbrev pub callAfter : State × Answer → Lent
+callAfter (t, number m) = lentWith t [] []
+callAfter (t, ticked m a k) = lentWith t [] []
+callAfter (t, told r) = leftBy t r
+
+abbrev pub before : Outward → Lent
+before (made c t) = callBefore c t
+before (load ks) = lentKeys ks
+before (nextName a) = lentOut [] []
+before (nextNameOut a o) = lentOut (o ∷ []) []
+before (textureNameOut b m slot t o) = lentWith t (o ∷ []) []
+before (uvs ls ss o) = lentOut [] (o ∷ [])
+before (corners c size ox oy r) = lentOut [] []
+before (translate k d) = lentOut [] []
+before (rotatePoint p c r) = lentOut [] []
+
+-- names, corners and turned points are answers, and no call changes a player that it doesn't hand back
+abbrev pub after : List ℕ → Outward → Lent
+after s (made c t) = callAfter (stepP s c t)
+after s (load ks) = lentKeys (loadedOf s ks .keys)
+after s (nextName a) = lentOut [] []
+after s (nextNameOut a o) = lentOut (nextNameInto s a o .out ∷ []) []
+after s (textureNameOut b m slot t o) = lentWith t (textureNameInto s b (t .player) (t .keys) m slot o .out ∷ []) []
+after s (uvs ls ss o) = lentOut [] (uvsOf ls ss o .out ∷ [])
+after s (corners c size ox oy r) = lentOut [] []
+after s (translate k d) = lentOut [] []
+after s (rotatePoint p c r) = lentOut [] []
