@@ -44,6 +44,7 @@ fn lists_reach_every_refusal_and_long_journals() {
     println!("{next_names:?}, slots {slots:?}");
     assert!(next_names.of_length.iter().all(|&n| n > 10));
     assert!(next_names.wide > 50);
+    assert!(next_names.without > 50);
     assert!(slots.iter().all(|&n| n > 10), "{slots:?}");
 }
 

@@ -20,7 +20,8 @@ impl Counts {
             }
             let found = self.in_state(&mut held, &ours);
             if let Some(found) = found {
-                return Some(format!("after {} calls, {found}", list.len()));
+                let (animations, calls) = (&held.sheet.animations, list.len());
+                return Some(format!("{animations:?}, after {calls} calls, {found}"));
             }
         }
         None

@@ -42,7 +42,8 @@ pub struct Counts {
     spoils: u64,
     /// By kind and refusal.
     of_kind: [[u64; REFUSALS]; KINDS.len()],
-    /// Next names that were the ones that the Rust's ticks returned.
+    /// Next names that were the ones that the Rust's ticks returned, and ticks
+    /// that ended without one as the Rust's did.
     next_names: NextNames,
     /// Lists that passed 128 edits, and those whose plain machine was beside
     /// to the end.
@@ -79,13 +80,14 @@ impl Counts {
         difference.map(|what| Difference { seed, steps, what })
     }
 
-    /// Every short list, and the first difference.
+    /// Every short list on each of the sheets, and the first difference.
     pub fn each_short_list(&mut self) -> Option<String> {
-        let (sheet, book) = damage::base_pair();
-        (0..short::COUNT).find_map(|number| {
-            let list = short::list(number);
-            let what = self.list(&sheet, &book, &list)?;
-            Some(format!("{list:?}: {what}"))
+        ends::pairs().iter().find_map(|(sheet, book)| {
+            (0..short::COUNT).find_map(|number| {
+                let list = short::list(number);
+                let what = self.list(sheet, book, &list)?;
+                Some(format!("{:?}, {list:?}: {what}", sheet.animations))
+            })
         })
     }
 
@@ -147,6 +149,11 @@ impl Counts {
         (!same).then(|| format!("player or keys after {call:?}"))
     }
 
+    /// Whether some tick ended with a next name, and some without one.
+    pub fn ended_both_ways(&self) -> bool {
+        self.next_names.all() > 0 && self.next_names.without > 0
+    }
+
     pub fn print_lists(&self) {
         let Self {
             lists,
@@ -168,9 +175,13 @@ impl Counts {
         let sums: [u64; REFUSALS] =
             std::array::from_fn(|n| self.of_kind.iter().map(|counts| counts[n]).sum());
         println!("all: {}", told(&sums));
-        let NextNames { of_length, wide } = &self.next_names;
+        let NextNames {
+            of_length,
+            wide,
+            without,
+        } = &self.next_names;
         println!(
-            "next names: {}, the Rust's own, by length {{{}}}, {wide} of them not ASCII",
+            "next names: {}, the Rust's own, by length {{{}}}, {wide} of them not ASCII; {without} ticks ended without one",
             self.next_names.all(),
             occurred(of_length, 0)
         );

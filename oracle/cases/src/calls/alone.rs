@@ -2,19 +2,20 @@
 //! length spoiled alone, and several of rows 1 to 5 broken at once, in a few
 //! states, with calls of every kind.
 
+use super::ends;
 use super::held::Held;
 use super::player::{Player, ROWS};
 use super::spoil::{self, Spoil};
 use super::{Call, NONE, Request};
 use crate::bits::bits_of;
-use crate::sheets::damage;
 
 const MOST: u64 = 1 << 40;
 
 /// How many edits fill a journal, and some more.
 const MANY: usize = ROWS + 12;
 
-/// A state: freshly loaded, and then these calls, all of them accepted.
+/// A state: freshly loaded, and then these calls, all of them accepted. Each sheet
+/// has a curve of each kind with three keys, the first two in the first animation.
 pub fn states() -> Vec<(Held, Vec<Call>)> {
     let selected = vec![Call::Play(0)];
     let edits = |n: usize| -> Vec<Call> { (0..n).map(edit).collect() };
@@ -27,13 +28,12 @@ pub fn states() -> Vec<(Held, Vec<Call>)> {
         [&selected[..], &edits(ROWS), &[Call::Undo; ROWS]].concat(),
         [&selected[..], &edits(MANY), &[Call::Undo; ROWS]].concat(),
     ];
-    lists.into_iter().map(|calls| (loaded(), calls)).collect()
-}
-
-/// A curve of each kind with three keys, the first two in the first animation.
-fn loaded() -> Held {
-    let (sheet, book) = damage::base_pair();
-    Held::new(&sheet, &book)
+    let mut states = Vec::new();
+    for (sheet, book) in ends::pairs() {
+        let calls = lists.iter().cloned();
+        states.extend(calls.map(|calls| (Held::new(&sheet, &book), calls)));
+    }
+    states
 }
 
 /// Edits that go round the keys of the first two tracks, no two alike.
@@ -75,6 +75,7 @@ pub fn calls() -> Vec<Call> {
         Call::Pose(7, 1.5),
         Call::Pose(0, f32::NAN),
         Call::Tick { dt: 0.5, fps: 8.0 },
+        Call::Tick { dt: 8.0, fps: 8.0 }, // past each animation's end
         Call::Tick {
             dt: f32::MAX,
             fps: f32::MAX,

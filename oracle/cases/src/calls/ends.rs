@@ -1,6 +1,7 @@
 //! Animations that end, with a next name of every length and without one.
 
 use super::{Call, Tick};
+use crate::format::book::Book;
 use crate::format::sheet::Sheet;
 use crate::format::{NAME, Name};
 use crate::random::Random;
@@ -24,6 +25,17 @@ pub fn each() -> impl Iterator<Item = (Sheet, Vec<Call>)> {
         let all = ends.into_iter().chain(loops);
         all.map(move |(count, looping)| (sheet(next, count, looping), list(count)))
     })
+}
+
+/// The base, in which no animation ends, as both loop; and it with both ending:
+/// the first with a next name, and the first without one.
+pub fn pairs() -> [(Sheet, Book); 3] {
+    let (base, book) = damage::base_pair();
+    let mut named = base.clone();
+    named.animations.iter_mut().for_each(|row| row.looping = 0);
+    let mut unnamed = named.clone();
+    unnamed.animations.reverse();
+    [base, named, unnamed].map(|sheet| (sheet, book.clone()))
 }
 
 /// No name, and names of each length.
@@ -60,20 +72,25 @@ fn list(frame_count: u16) -> Vec<Call> {
     ]
 }
 
-/// How many next names of each length ticks ended with, and how many of them
-/// have characters of more than one byte.
+/// How many next names of each length ticks ended with, how many of them have
+/// characters of more than one byte, and how many ticks ended without one.
 #[derive(Clone, Copy, Debug, Default)]
 pub struct NextNames {
     pub of_length: [u64; NAME + 1],
     pub wide: u64,
+    pub without: u64,
 }
 
 impl NextNames {
     pub fn add(&mut self, tick: &Tick) {
-        if let Tick::Next(name) = tick {
-            let length = name.iter().rposition(|&byte| byte != 0);
-            self.of_length[length.map_or(0, |last| last + 1)] += 1;
-            self.wide += u64::from(!name.is_ascii());
+        match tick {
+            Tick::Next(name) => {
+                let length = name.iter().rposition(|&byte| byte != 0);
+                self.of_length[length.map_or(0, |last| last + 1)] += 1;
+                self.wide += u64::from(!name.is_ascii());
+            }
+            Tick::Ended => self.without += 1,
+            Tick::Idle | Tick::Running => {}
         }
     }
 

@@ -1,13 +1,14 @@
 //! Every short list over a few calls, which meet at the same keys: an edit moves
 //! a bound of the next one, an undo takes it back, a pose changes the animation
-//! between them.
+//! between them. The tick runs on, wraps or ends.
 
 use super::{Call, NONE, Request};
 
 /// How long the lists are. Shorter ones are their beginnings.
 pub const LENGTH: u32 = 5;
 
-/// The calls, on the sheet and the book of `damage::base_pair`.
+/// The calls, on each of `ends::pairs`. The tick is of 56 frames: an animation of
+/// 60 runs on and ends at the second one, one of 30 ends at the first.
 const CALLS: [Call; 11] = [
     Call::Play(0),
     Call::Pose(1, 2.0),

@@ -5,10 +5,11 @@
 //! a few calls; then animations that end, with a next name of every length; then
 //! plays, poses and ticks in every kind of view; then every field, journal row
 //! and key spoiled alone; then random lists, until COUNT of their calls were
-//! compared. `calls 0 SEED` runs the one random list of that seed, and tells its
-//! steps.
+//! compared. In each of these some tick must end with a next name and some
+//! without one, for which a COUNT below 5,000 may be too small. `calls 0 SEED`
+//! runs the one random list of that seed, and tells its steps.
 
-use cases::calls::short;
+use cases::calls::{ends, short};
 use cases::random::Random;
 use compare::arguments::Arguments;
 use compare::lists::{Counts, Difference};
@@ -22,24 +23,26 @@ fn main() {
         return;
     }
     let found = counts.each_short_list();
-    report(&counts, &format!("{} short lists", short::COUNT), found);
+    let (lists, sheets) = (short::COUNT, ends::pairs().len());
+    let what = format!("{lists} short lists on each of {sheets} sheets");
+    report_part(&counts, &what, found);
 
     let mut counts = Counts::default();
     let found = counts.each_end();
-    report(&counts, "animations that end", found);
+    report_part(&counts, "animations that end", found);
 
     let mut counts = Counts::default();
     let found = counts.each_view();
-    report(&counts, "each view", found);
+    report_part(&counts, "each view", found);
 
     let mut counts = Counts::default();
     let found = counts.each_spoil_alone();
-    report(&counts, "each thing spoiled alone", found);
+    report_part(&counts, "each thing spoiled alone", found);
 
     let mut counts = Counts::default();
     let found = random_lists(&mut counts, count, seed);
     counts.print_lists();
-    report(&counts, &format!("random lists, seed {seed}"), found);
+    report_part(&counts, &format!("random lists, seed {seed}"), found);
 }
 
 /// Random lists until so many calls were made; of those that differ, the one
@@ -69,4 +72,14 @@ fn report(counts: &Counts, what: &str, differs: Option<String>) {
         std::process::exit(1);
     }
     println!("{what}: {} calls compared, none differ", counts.calls);
+}
+
+/// The same for a part of the run, which fails too where its ticks didn't end both
+/// ways: it would have compared no next name, or no end without one.
+fn report_part(counts: &Counts, what: &str, differs: Option<String>) {
+    report(counts, what, differs);
+    if !counts.ended_both_ways() {
+        println!("{what}: no tick ended with a next name, or none without one");
+        std::process::exit(1);
+    }
 }
