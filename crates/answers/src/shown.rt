@@ -16,21 +16,13 @@ use calls::READ_PANE;
 use calls::RESOLVE_PANE;
 use calls::RESOLVE_SRT;
 use facts::Lead;
+use laws::refusal::NO_ANIMATION;
 use menu::ReadOne;
 use player::Player;
 use printed::say;
 use reading::Reading;
 ghost use Rattle.sheet.specs.Checked.{Checked};
 ghost use Rattle.book.specs.Checked.{CheckedBook};
-
-// The texture slot of a channel that reads a texture row.
-fn slot_of(channel: u16) -> u16 {
-    let first = channel::slot_channel(0);
-    if channel < first {
-        return 0;
-    }
-    channel - first
-}
 
 fn say_shown(shown: bool) {
     if shown {
@@ -56,7 +48,7 @@ fn say_reading<'a>(
         Reading::Number(x) => printed::say_number(x),
         Reading::Shown(v) => say_shown(v),
         Reading::Row(row) => {
-            let slot = slot_of(c.second);
+            let slot = facts::slot_of(c.second);
             facts::say_row(p, s, b, frames, values, slopes, c.first, slot, row)
         }
         Reading::Level(n) => {
@@ -114,19 +106,22 @@ fn say_texture<'a>(
     say(b"\n");
 }
 
-// The name of the animation that follows one.
-fn say_next(s: &[u8], animation: u16) {
-    let name = menu::next_name(s, animation);
-    if name.len() == 0 {
-        say(b"none\n");
+// The name of the animation that follows one. The sheet's row says whether there is one: a name that is there may be empty.
+fn say_next(s: &[u8], animation: u16)
+    requires { ⌜ Checked (now s) ⌝ }
+{
+    let i = animation as usize;
+    if i >= sheet::animation_count(s) {
+        refused(NO_ANIMATION);
         return;
     }
-    if name[0] == 0 {
+    let row = sheet::animation_row(s, i);
+    if !row.next {
         say(b"none\n");
         return;
     }
     say(b"next ");
-    printed::say_name(name);
+    printed::say_name(menu::next_name(s, animation));
     say(b"\n");
 }
 

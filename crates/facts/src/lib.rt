@@ -8,3 +8,4 @@ pub use cascade::say_cascade;
 pub use lead::Lead;
 pub use readings::say_readings;
 pub use row::say_row;
+pub use row::slot_of;

@@ -1,7 +1,9 @@
 // The whole reading: each overridden channel by the label of its pane or the name of its material.
 use crate::lead::Lead;
 use crate::lead::say_lead;
+use crate::row::SLOTS;
 use crate::row::say_row;
+use crate::row::slot_of;
 use player::Player;
 use printed::MATERIAL_CHANNELS;
 use printed::PANE_CHANNELS;
@@ -12,12 +14,8 @@ ghost use lib.ListN.{length};
 ghost use Rattle.book.specs.Checked.{CheckedBook};
 ghost use Rattle.book.specs.Sizes.{paneCount, materialCount};
 
-// Channels of a pane and of a material that are no plain numbers.
+// Channels of a pane and of a material that are no plain numbers, textures apart.
 const VISIBLE: usize = 10;
-
-const FIRST_TEXTURE: usize = 15;
-
-const PAST_TEXTURES: usize = 18;
 
 const FIRST_COLOUR: usize = 22;
 
@@ -89,14 +87,10 @@ fn say_material_value<'a>(
     c: usize,
     x: f32,
 )
-    requires { ⌜ CheckedBook (now b) × (i < materialCount (now b)) ⌝ }
+    requires { ⌜ CheckedBook (now b) × ((i < materialCount (now b)) × (c < 30)) ⌝ }
 {
-    if c < FIRST_TEXTURE {
-        printed::say_number(x);
-        return;
-    }
-    if c < PAST_TEXTURES {
-        let slot = (c - FIRST_TEXTURE) as u16;
+    let slot = slot_of(c as u16);
+    if slot < SLOTS {
         let row = float::cut_u16(x);
         say_row(p, s, b, frames, values, slopes, i as u16, slot, row);
         return;

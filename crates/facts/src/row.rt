@@ -1,7 +1,24 @@
-// A texture row: its number, and the name that the slot resolves to.
+// A texture row: its slot, its number, and the name that the slot resolves to.
 use player::Player;
 use printed::say;
 use printed::say_count;
+
+// How many texture slots a material has.
+pub const SLOTS: u16 = 3;
+
+// The texture slot that has a channel of a material, or the number of slots where none has it.
+pub fn slot_of(c: u16) -> u16 {
+    if c == channel::slot_channel(0) {
+        return 0;
+    }
+    if c == channel::slot_channel(1) {
+        return 1;
+    }
+    if c == channel::slot_channel(2) {
+        return 2;
+    }
+    SLOTS
+}
 
 pub fn say_row<'a>(
     p: Player,
