@@ -4,7 +4,7 @@
  *
  * A sheet holds the animations, a book the panes and materials that they move. A slice is a pointer and a length in
  * elements. A call asks only that a pointer has that many elements (any pointer will do for none), and that no output
- * overlaps another argument. It answers a refusal, 0 for none; the first that applies by rising number. On a refusal
+ * overlaps another argument. It answers a refusal, 0 for none: the first that applies, in the table's order. On a refusal
  * nothing that was lent has changed, the player comes back as it was, and other answers are 0.
  */
 #ifndef MENU_H

@@ -16,7 +16,7 @@ pub const PANE_CHANNELS: usize = 28;
 pub const MATERIAL_CHANNELS: usize = 30;
 
 // How many layers a material has, each with a texture slot, and the first slot's channel.
-const MATERIAL_LAYERS: usize = 3;
+pub const MATERIAL_LAYERS: usize = 3;
 
 const FIRST_TEXTURE: usize = 15;
 

@@ -4,6 +4,7 @@ mod place;
 mod reach;
 
 pub use address::MATERIAL_CHANNELS;
+pub use address::MATERIAL_LAYERS;
 pub use address::PANE_CHANNELS;
 pub use address::channel_count;
 pub use address::family_of;

@@ -4,7 +4,7 @@ use printed::say;
 use printed::say_count;
 
 // How many texture slots a material has.
-pub const SLOTS: u16 = 3;
+pub const SLOTS: u16 = channel::MATERIAL_LAYERS as u16;
 
 // The texture slot that has a channel of a material, or the number of slots where none has it.
 pub fn slot_of(c: u16) -> u16 {

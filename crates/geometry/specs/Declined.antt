@@ -1,4 +1,4 @@
--- Document 01, "What a call declines", for the calls of "UVs and corners": rows 7, 8, 12 and 13, each call's as a list of rows by rising number.
+-- Document 01, "What a call declines", for the calls of "UVs and corners": rows 7, 8, 12 and 13, each call's as a list of rows.
 use Prim.Native.Nat.{ℕ, _+_, _*_, _/_, _%_}
 use mathlib.Core.Bool.{Bool, _&&_}
 use mathlib.Core.List.{List, [], _∷_}

@@ -1,5 +1,5 @@
--- Loading (document 01, "Sheet and book": it copies the keys into three lent arrays, each of length K; and rows 1, 3 and 4 of "What a call declines").
--- Definitions only.
+-- Rows 3 and 4 of "What a call declines" (document 01), of lent keys and of loading; and loading ("Sheet and book": it copies the keys into three
+-- lent arrays, each of length K). Definitions only.
 use Prim.Native.Nat.{ℕ}
 use mathlib.Core.List.{List, [], _∷_}
 use mathlib.Core.Bool.{Bool, cond, _&&_}
@@ -12,11 +12,18 @@ use Rattle.sheet.specs.Sheet.{sheetOk}
 use Rattle.keys.specs.Keys.{keysOk}
 use Rattle.keys.specs.Stored.{storedFrames, storedValues, storedSlopes}
 
--- the three arrays, by their lengths, are K long
-abbrev pub arraysOk : List ℕ → ℕ → ℕ → ℕ → Bool
+-- row 3: each key array is K long, by their lengths and by the arrays themselves
+unfoldable pub arraysOk : List ℕ → ℕ → ℕ → ℕ → Bool
 arraysOk s f v z = eqb f (keyCount s) && eqb v (keyCount s) && eqb z (keyCount s)
 
--- Loading: the sheet's layout (1), each key array K long (3), the sheet's keys within the key rules (4)
+unfoldable pub lengthsOk : List ℕ → List Float → List Float → List Float → Bool
+lengthsOk s fs vs ss = arraysOk s (length fs) (length vs) (length ss)
+
+-- lent keys: each array K long (3), the keys within the key rules (4)
+abbrev pub lentRows : List ℕ → List Float → List Float → List Float → List Row
+lentRows s fs vs ss = row 3 (lengthsOk s fs vs ss) ∷ row 4 (keysOk s fs vs ss) ∷ []
+
+-- Loading: the sheet's layout (1), each key array K long (3), the sheet's own keys within the key rules (4)
 unfoldable pub loadTable : List ℕ → ℕ → ℕ → ℕ → List Row
 loadTable s f v z =
     row 1 (sheetOk s)

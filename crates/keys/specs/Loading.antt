@@ -13,7 +13,7 @@ use Rattle.sheet.specs.Sizes.{keyCount, framesAt, pointsAt}
 use Rattle.sheet.specs.Checked.{checked}
 use Rattle.keys.specs.Checked.{KeysChecked, keys-checked}
 use Rattle.keys.specs.Stored.{floatsFrom, storedFrames, storedValues, storedSlopes, Stored}
-use Rattle.keys.specs.Load.{loadTable, loaded, loadOf}
+use Rattle.keys.specs.Load.{arraysOk, loadTable, loaded, loadOf}
 
 -- where nothing is declined, the sheet's keys can be read, the arrays are K long, and the keys keep the rules
 pub record Loadable (s : List ℕ) (f v z : ℕ) : Type 0 where
@@ -24,7 +24,7 @@ pub record Loadable (s : List ℕ) (f v z : ℕ) : Type 0 where
   pub keys : KeysChecked s (storedFrames s) (storedValues s) (storedSlopes s)
 
 pub loadable : (s : List ℕ) (f v z : ℕ) → declines (loadTable s f v z) ≡ 0 → Loadable s f v z
-unfolding loadTable
+unfolding loadTable arraysOk
 loadable s f v z e =
     let r = held _ tt e in
     let h = keys-checked s (storedFrames s) (storedValues s) (storedSlopes s) (r .1 .1 .0) in

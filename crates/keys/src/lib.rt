@@ -3,6 +3,7 @@ mod load;
 mod rules;
 mod stored;
 
+pub use load::lent_refusal;
 pub use load::load_keys;
 pub use load::load_refusal;
 pub use rules::curve_ok;

@@ -1,4 +1,5 @@
-// Loading: the keys that a sheet holds are copied into three lent arrays.
+// Rows 3 and 4 of the table; and loading: the keys that a sheet holds are copied into three lent arrays.
+use crate::rules::keys_ok;
 use crate::stored::frames_at;
 use crate::stored::points_at;
 use crate::stored::stored_ok;
@@ -9,9 +10,33 @@ use laws::refusal::SHEET_LAYOUT;
 ghost use mathlib.Core.Path.{_≡_};
 ghost use Prim.Native.Nat.{ℕ, _+_, _*_, _<_};
 ghost use lib.ListN.{length};
+ghost use Rattle.sheet.specs.Checked.{Checked};
 ghost use Rattle.keys.specs.Stored.{floatsFrom, Floats};
 ghost use Rattle.laws.specs.Rows.{declines};
-ghost use Rattle.keys.specs.Load.{loadTable, loaded, loadOf};
+ghost use Rattle.keys.specs.Load.{arraysOk, lentRows, loadTable, loaded, loadOf};
+
+// Row 3: key arrays of these lengths are each K long.
+fn arrays_ok(s: &[u8], frames: usize, values: usize, slopes: usize) -> bool
+    requires { ⌜ Checked (now s) ⌝ }
+    ensures { λ r. ⌜ r ≡ arraysOk (now (s .entry)) frames values slopes ⌝ }
+{
+    let n = sheet::key_count(s);
+    (frames == n) & (values == n) & (slopes == n)
+}
+
+// Rows 3 and 4 of lent keys: why they can't be those of the sheet s, or 0.
+pub fn lent_refusal(s: &[u8], frames: &[f32], values: &[f32], slopes: &[f32]) -> u8
+    requires { ⌜ Checked (now s) ⌝ }
+    ensures { λ r. ⌜ r ≡ declines (lentRows (now (s .entry)) (now (frames .entry)) (now (values .entry)) (now (slopes .entry))) ⌝ }
+{
+    if !arrays_ok(s, frames.len(), values.len(), slopes.len()) {
+        return KEY_ARRAY_LENGTH;
+    }
+    if !keys_ok(s, frames, values, slopes) {
+        return KEY_RULES;
+    }
+    ACCEPTED
+}
 
 // Why arrays of these lengths can't be loaded, or 0.
 pub fn load_refusal(s: &[u8], frames: usize, values: usize, slopes: usize) -> u8
@@ -20,8 +45,7 @@ pub fn load_refusal(s: &[u8], frames: usize, values: usize, slopes: usize) -> u8
     if !sheet::sheet_ok(s) {
         return SHEET_LAYOUT;
     }
-    let n = sheet::key_count(s);
-    if !((frames == n) & (values == n) & (slopes == n)) {
+    if !arrays_ok(s, frames, values, slopes) {
         return KEY_ARRAY_LENGTH;
     }
     if !stored_ok(s) {

@@ -5,7 +5,7 @@ use mathlib.Core.Bool.{Bool, true, false, _&&_}
 use mathlib.Core.Path.{_≡_, refl, sym, subst, _∙_}
 use mathlib.Core.List.{List, [], _∷_, _++_}
 use lib.Dec.{T, ltb}
-use Rattle.laws.specs.Tests.{and-1, and-2, no, yes, T-true, true-T}
+use Rattle.laws.specs.Tests.{and-1, and-2, no, yes, hit, miss, joined-no, joined-yes, T-true, true-T}
 
 -- a row of the table for one call: its number, and whether what it asks holds
 pub record Row : Type 0 where
@@ -24,6 +24,11 @@ unless false n next = n
 unfoldable pub declines : List Row → ℕ
 declines [] = 0
 declines (r ∷ rs) = unless (r .holds) (r .number) (declines rs)
+
+-- the numbers of the rows, in their order
+abbrev pub numbers : List Row → List ℕ
+numbers [] = []
+numbers (r ∷ rs) = r .number ∷ numbers rs
 
 -- no row has the number 0
 abbrev pub numbered : List Row → Bool
@@ -51,8 +56,8 @@ pub passes : (n : ℕ) {m : ℕ} {b : Bool} (rs : List Row) → b ≡ true → m
 unfolding declines unless
 passes n rs e h = rw e h
 
--- what closes a `return` of a function that looks at rows in order
-pub ruleset rows = (no-rows, fails, passes, no, yes)
+-- what closes a `return` of a function that looks at rows in order, each by a call whose contract is the row's test
+pub ruleset row-laws = (no-rows, fails, passes, no, yes, hit, miss, joined-no, joined-yes)
 
 -- a test that gave 0 holds, and what comes next is 0
 passed : (b : Bool) (n next : ℕ) → T (ltb 0 n) → unless b n next ≡ 0 → (b ≡ true) × (next ≡ 0)
@@ -77,6 +82,12 @@ pub joined : (rs more : List Row) → Hold rs → declines (rs ++ more) ≡ decl
 unfolding declines unless
 joined [] more h = refl
 joined (r ∷ rs) more h = rw (h .0) (joined rs more (h .1))
+
+-- nothing is declined where each row holds
+pub holds-then : (rs : List Row) → Hold rs → declines rs ≡ 0
+unfolding declines unless
+holds-then [] h = refl
+holds-then (r ∷ rs) h = rw (h .0) (holds-then rs (h .1))
 
 -- an answer of 0 gives every row, of the first rows and of the rest
 pub held : (rs : List Row) → T (numbered rs) → declines rs ≡ 0 → Hold rs

@@ -8,11 +8,11 @@ use Rattle.sheet.specs.Sheet.{sheetOk}
 use Rattle.sheet.specs.Sizes.{targetCount}
 use Rattle.sheet.specs.Rows.{targetRow}
 use Rattle.sheet.specs.Checked.{Checked, checked}
+use Rattle.keys.specs.Load.{arraysOk, lengthsOk}
 use Rattle.player.specs.Keys.{Keys, put-length}
 use Rattle.player.specs.Edit.{Edit, place, edited, spotOf, madeEdit, editRows}
 use Rattle.player.specs.Put.{has-key, place-within, here-fits, fits-same}
 use Rattle.player.specs.Accepted.{HeldRequest, accepted-key, edit-fits, edit-keeps, edit-held}
-use Rattle.menu.specs.Rows.{lengthsOk}
 use Rattle.menu.specs.Calls.{entryFor}
 use Rattle.machine.proofs.Invariant.{Sane, Fair}
 
@@ -24,8 +24,8 @@ module _ (s : List ℕ) (ok : sheetOk s ≡ true) (ks : Keys) (sane : Sane s ks)
   there = has-key s (e .track) (e .key) (accepted-key s (e .animation) ks (e .track) (e .key) (e .request) n .0)
 
   -- an edit leaves the lengths
-  long-kept : lengthsOk s (madeEdit s ks e) ≡ true
-  unfolding lengthsOk madeEdit
+  long-kept : let made = madeEdit s ks e in lengthsOk s (made .frames) (made .values) (made .slopes) ≡ true
+  unfolding arraysOk lengthsOk madeEdit
   long-kept =
       let k = put-length ks (place s (e .track) (e .key)) (edited s ks (e .track) (e .key) (e .request)) in
       rw (k .0, k .1, k .2) (sane .long)

@@ -8,6 +8,7 @@ use native.Mathlib.Nat.{eq-or-lt-of-le, le-of-suc-le-suc}
 use native.Mathlib.Omega.{arith}
 use lib.ListN.{length}
 use Rattle.float.specs.Numbers.{finite}
+use Rattle.keys.specs.Load.{lengthsOk}
 use Rattle.player.specs.declared.Player.{Player}
 use Rattle.player.specs.declared.journal.Entry.{Entry}
 use Rattle.player.specs.declared.journal.Journal.{Journal}
@@ -17,13 +18,12 @@ use Rattle.player.specs.Player.{selectionOk, entryOk, rows}
 use Rattle.player.specs.View.{View}
 use Rattle.player.specs.Edit.{Edit, place, edited, madeEdit}
 use Rattle.player.specs.Undo.{sameKey, keysOkOf}
-use Rattle.menu.specs.Rows.{lengthsOk}
 use Rattle.menu.specs.Calls.{entryFor}
 use Rattle.machine.specs.Plain.{Plain, replay, keysOf}
 
 -- keys as each call finds and leaves them: as long as the sheet says, within the key rules, and f32 in all three arrays, as a lent slice is
 pub record Sane (s : List ℕ) (ks : Keys) : Type 0 where
-  pub long : lengthsOk s ks ≡ true
+  pub long : lengthsOk s (ks .frames) (ks .values) (ks .slopes) ≡ true
   pub rules : keysOkOf s ks ≡ true
   pub held : HeldKeys ks
 
@@ -37,7 +37,7 @@ pub record Fair (s : List ℕ) (ks : Keys) (e : Edit) : Type 0 where
   pub made : Sane s (madeEdit s ks e)
 
 -- the row of the edit e, made after the edits es, holds its entry
-pub record Row (s : List ℕ) (j : Journal) (ks : Keys) (es : List Edit) (e : Edit) : Type 0 where
+pub record JournalRow (s : List ℕ) (j : Journal) (ks : Keys) (es : List Edit) (e : Edit) : Type 0 where
   pub is : rowOf j (length es) ≡ entryFor s (replay s ks es) (e .track) (e .key) (e .request)
   pub fair : Fair s (replay s ks es) e
 
@@ -45,12 +45,12 @@ pub record Row (s : List ℕ) (j : Journal) (ks : Keys) (es : List Edit) (e : Ed
 abbrev pub Back : List ℕ → Journal → Keys → List Edit → ℕ → Type 0
 Back s j ks es zero = Unit {0}
 Back s j ks [] (suc r) = ⊥
-Back s j ks (e ∷ es) (suc r) = Row s j ks es e × Back s j ks es r
+Back s j ks (e ∷ es) (suc r) = JournalRow s j ks es e × Back s j ks es r
 
 -- the rows of the edits that a redo makes again
 abbrev pub Fore : List ℕ → Journal → Keys → List Edit → List Edit → Type 0
 Fore s j ks es [] = Unit {0}
-Fore s j ks es (e ∷ us) = Row s j ks es e × Fore s j ks (e ∷ es) us
+Fore s j ks es (e ∷ us) = JournalRow s j ks es e × Fore s j ks (e ∷ es) us
 
 -- a view that a call may find
 pub record Seen (s : List ℕ) (v : View) : Type 0 where
@@ -109,7 +109,7 @@ module _ (s : List ℕ) (j : Journal) (ks : Keys) where
   )
 
   -- the used rows name keys of the sheet
-  row-ok : (es : List Edit) (e : Edit) → Row s j ks es e → entryOk s (rowOf j (length es)) ≡ true
+  row-ok : (es : List Edit) (e : Edit) → JournalRow s j ks es e → entryOk s (rowOf j (length es)) ≡ true
   row-ok es e r = ap (entryOk s) (r .is) ∙ r .fair .entry
 
   pub back-ok : (es : List Edit) (r k : ℕ) → Back s j ks es r → length es ≤ k + r → k < length es → entryOk s (rowOf j k) ≡ true

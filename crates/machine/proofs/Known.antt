@@ -19,13 +19,13 @@ use Rattle.float.specs.SinCos.{sinCosOf}
 use Rattle.field.specs.Read.{u16At, u32At, floatAt, finiteAt, finiteIn, finiteRow}
 use Rattle.field.specs.Name.{sameByte, sameName, zeroByte, emptyName, rowNamed, findName, otherName, nameOk, namesOk}
 use Rattle.sheet.specs.Sheet as sheet
-use Rattle.sheet.specs.Rows.{animationRow, contentRow, targetRow}
+use Rattle.sheet.specs.Rows.{nextName, animationRow, contentRow, targetRow}
 use Rattle.book.specs.Book as book
 use Rattle.book.specs.Rows.{paneRow}
 use Rattle.keys.specs.Rules.{finiteKey, constantKey, stepKey, curveOk, trackOk}
 use Rattle.keys.specs.Keys.{keysFit, heldTrack, keysOk}
 use Rattle.keys.specs.Stored.{storedFrames, storedValues, storedSlopes}
-use Rattle.keys.specs.Load.{loadTable, loadOf}
+use Rattle.keys.specs.Load.{arraysOk, lengthsOk, loadTable, loadOf}
 use Rattle.curve.specs.Keys.{before}
 use Rattle.curve.specs.Span.{spanOf}
 use Rattle.curve.specs.Curve.{curveTaken, valueOf, evalCurve}
@@ -39,10 +39,10 @@ use Rattle.resolve.specs.Resolve.{paneNumber, visibleOf, alphaOf}
 use Rattle.resolve.specs.Cascade.{under, above, rowFrom, cascade, visibles, alphas, influences}
 use Rattle.player.specs.Keys.{keyAt, putKey}
 use Rattle.player.specs.Player.{freshPlayer, selectionOk, hasKey, usedOk, countsOk, playerOk}
-use Rattle.player.specs.View.{playView, poseView, ticks, tickSum, countOf, wraps, tickFrame, tickEnds, endOf, tickView, tickAnswer}
+use Rattle.player.specs.View.{playView, poseView, ticks, tickSum, countOf, wraps, tickFrame, tickMoves, tickEnds, endOf, tickView, tickAnswer}
 use Rattle.player.specs.Edit.{place, spotOf, lowest, highest, clampedFrame, editedFrame, editedValue, editedAt, edited, overtakes, requestRows, keyIn, editRows}
-use Rattle.menu.specs.Rows.{lengthsOk, playRows, poseRows, tickMoves, tickRows, paneChannelRows, materialChannelRows, cascadeRows, playTable, poseTable, tickTable, editTable, readPaneTable, readMaterialTable, cascadeTable}
-use Rattle.menu.specs.Calls.{playOf, poseOf, tickOf, editOf, loadedOf}
+use Rattle.menu.specs.Rows.{playRows, poseRows, tickRows, paneChannelRows, materialChannelRows, cascadeRows, playTable, poseTable, tickTable, editTable, nextNameTable, readPaneTable, readMaterialTable, cascadeTable}
+use Rattle.menu.specs.Calls.{playOf, poseOf, tickOf, editOf, loadedOf, nextNameOf}
 use Rattle.menu.specs.Readings.{activeIn, oneOf, cascadedOf, readPaneOf, readMaterialOf, cascadeOf}
 use Rattle.machine.specs.Small as small
 use Rattle.machine.specs.Poses as poses
@@ -60,11 +60,11 @@ unfolding u16At u32At floatAt finiteAt finiteIn finiteRow sameByte sameName zero
 fields = tt
 
 formats : Unit {0}
-unfolding sheet.sizesOk sheet.lengthOk sheet.animationOk sheet.contentOk sheet.targetFrom sheet.keysOf sheet.targetOk sheet.targetsOk sheet.sheetOk animationRow contentRow targetRow book.sizesOk book.paneOk book.materialOk book.bookOk paneRow
+unfolding sheet.sizesOk sheet.lengthOk sheet.animationOk sheet.contentOk sheet.targetFrom sheet.keysOf sheet.targetOk sheet.targetsOk sheet.sheetOk nextName animationRow contentRow targetRow book.sizesOk book.paneOk book.materialOk book.bookOk paneRow
 formats = tt
 
 keys : Unit {0}
-unfolding finiteKey constantKey stepKey curveOk trackOk keysFit heldTrack keysOk storedFrames storedValues storedSlopes loadTable loadOf
+unfolding finiteKey constantKey stepKey curveOk trackOk keysFit heldTrack keysOk storedFrames storedValues storedSlopes arraysOk lengthsOk loadTable loadOf
 keys = tt
 
 curves : Unit {0}
@@ -80,15 +80,15 @@ unfolding familyOf listed paneChannel colourPlace materialChannel ofPane ofMater
 readings = tt
 
 player : Unit {0}
-unfolding keyAt putKey freshPlayer selectionOk hasKey usedOk countsOk playerOk playView poseView ticks tickSum countOf wraps tickFrame tickEnds endOf tickView tickAnswer place spotOf lowest highest clampedFrame editedFrame editedValue editedAt edited overtakes requestRows keyIn editRows
+unfolding keyAt putKey freshPlayer selectionOk hasKey usedOk countsOk playerOk playView poseView ticks tickSum countOf wraps tickFrame tickMoves tickEnds endOf tickView tickAnswer place spotOf lowest highest clampedFrame editedFrame editedValue editedAt edited overtakes requestRows keyIn editRows
 player = tt
 
 calls : Unit {0}
-unfolding lengthsOk playRows poseRows tickMoves tickRows paneChannelRows materialChannelRows cascadeRows playTable poseTable tickTable editTable readPaneTable readMaterialTable cascadeTable playOf poseOf tickOf editOf loadedOf activeIn oneOf cascadedOf readPaneOf readMaterialOf cascadeOf
+unfolding playRows poseRows tickRows paneChannelRows materialChannelRows cascadeRows playTable poseTable tickTable editTable nextNameTable readPaneTable readMaterialTable cascadeTable playOf poseOf tickOf editOf loadedOf nextNameOf activeIn oneOf cascadedOf readPaneOf readMaterialOf cascadeOf
 calls = tt
 
 pose-table : Unit {0}
-unfolding small.over small.below small.minus small.whole small.u16 small.f32 small.name small.allKeys small.contents small.targets small.frames small.points small.sheet small.pane small.book poses.bits poses.told poses.readOne poses.met poses.ticked poses.seen poses.played poses.loaded poses.posed poses.playing poses.viewing poses.readPane poses.readMaterial poses.paneTrack poses.colourTrack poses.moves poses.still poses.shows poses.colours poses.fades poses.curveAt poses.tickAt poses.playFrom5 poses.poseFrom5 poses.tickOn poses.readBy poses.editTo poses.uvUnder poses.topLeft poses.childAlpha poses.shared poses.poses poses.same poses.right
+unfolding small.over small.below small.minus small.whole small.u16 small.f32 small.name small.allKeys small.contents small.targets small.frames small.points small.sheet small.followed small.following small.pane small.book poses.bits poses.told poses.readOne poses.met poses.ticked poses.seen poses.played poses.loaded poses.posed poses.playing poses.viewing poses.readPane poses.readMaterial poses.paneTrack poses.colourTrack poses.moves poses.still poses.shows poses.colours poses.fades poses.curveAt poses.tickAt poses.playFrom5 poses.poseFrom5 poses.tickOn poses.endFrom poses.readBy poses.editTo poses.uvUnder poses.topLeft poses.childAlpha poses.shared poses.poses poses.same poses.right
 pose-table = tt
 
 pub known : T (poses.right poses.poses)

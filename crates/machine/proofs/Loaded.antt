@@ -17,10 +17,9 @@ use Rattle.sheet.specs.Sizes.{keyCount}
 use Rattle.sheet.specs.Sheet.{sheetOk}
 use Rattle.keys.specs.Keys.{keysOk}
 use Rattle.keys.specs.Stored.{floatsFrom, storedFrames, storedValues, storedSlopes, frames-long, values-long, slopes-long}
-use Rattle.keys.specs.Load.{loadTable, loadOf}
+use Rattle.keys.specs.Load.{arraysOk, lengthsOk, loadTable, loadOf}
 use Rattle.curve.specs.Before.{Held}
 use Rattle.player.specs.Keys.{Keys, keys}
-use Rattle.menu.specs.Rows.{lengthsOk}
 use Rattle.menu.specs.Calls.{loadedOf}
 use Rattle.machine.proofs.Invariant.{Sane}
 
@@ -51,7 +50,7 @@ floats-held s at stride n i = go (decLt i n)
     go (no l) = unfold fits in let h : length (floatsFrom s at stride n) ≤ i = omega (arith, table-length n (λ k. floatAt s (at + k * stride))) in rw (List·getD-eq-default (floatsFrom s at stride n) nan h) tt
 
 pub loaded-sane : (s : List ℕ) (ks : Keys) → loadedOf s ks .refusal ≡ 0 → Sane s (loadedOf s ks .keys)
-unfolding lengthsOk storedFrames storedValues storedSlopes
+unfolding arraysOk lengthsOk storedFrames storedValues storedSlopes
 loaded-sane s ks e =
     subst (Sane s) (sym (loaded-keys s ks e))
     (record {

@@ -1,12 +1,13 @@
 -- Pose keeps the player an image of the machine. Assumes nothing.
 use mathlib.Core.Path.{_≡_, refl}
-use mathlib.Core.Bool.{Bool, true, false, _||_}
+use mathlib.Core.Bool.{Bool, true, false}
 use mathlib.Core.List.{List}
 use Prim.Native.Nat.{ℕ, _<_, _^_}
 use native.Mathlib.Omega.{arith}
 use lib.Dec.{eqb, ltb}
 use lib.Ieee.{Float, ofBits}
 use Rattle.laws.specs.Rows.{declines, held}
+use Rattle.laws.specs.Tests.{or-right}
 use Rattle.sheet.specs.Sizes.{animationCount}
 use Rattle.sheet.specs.Sheet.{sheetOk}
 use Rattle.player.specs.declared.journal.Journal.{Journal}
@@ -24,10 +25,6 @@ pose-seen : (s : List ℕ) (a : ℕ) (x : Float) → declines (poseRows x) ≡ 0
 unfolding poseRows poseView selectionOk ofBits
 pose-seen s a x e = go (ltb a (animationCount s)) refl
   where
-    or-right : (b c : Bool) → c ≡ true → (b || c) ≡ true
-    or-right true c h = refl
-    or-right false c h = h
-
     go : (b : Bool) → ltb a (animationCount s) ≡ b → Seen s (pickView b (record { selection = a; playing = false; preview = true; frame = x }) noView)
     go true q = record { selection = or-right (eqb a none) (ltb a (animationCount s)) q; frame = held (poseRows x) tt e .0 }
     go false q = record { selection = refl; frame = refl }

@@ -12,7 +12,7 @@ use Rattle.player.specs.declared.journal.Journal.{Journal}
 use Rattle.player.specs.Keys.{Keys}
 use Rattle.player.specs.View.{View}
 use Rattle.player.specs.Edit.{Edit, madeEdit}
-use Rattle.player.specs.Undo.{returnsOk, redoRows, redoEntry, redoneKeys, redonePlayer}
+use Rattle.player.specs.Undo.{returnsOk, redoFits, redoRows, redoEntry, redoneKeys, redonePlayer}
 use Rattle.menu.specs.Rows.{redoTable}
 use Rattle.menu.specs.Calls.{entryFor, redoOf}
 use Rattle.machine.specs.Calls.{redo}
@@ -39,7 +39,7 @@ module _ (s : List ℕ) (n : ℕ) (j : Journal) (ok : sheetOk s ≡ true) (few :
   M es us r = record { loaded = ks; standing = es; redo = us; reach = r; accepted = a; undone = d; redone = c; view = v }
 
   pub redo-kept : (es us : List Edit) (r : ℕ) → Good s n (M es us r) j → Kept s n redo (M es us r) j
-  unfolding redoOf redoTable redoRows redoEntry redonePlayer declines unless
+  unfolding redoOf redoTable redoRows redoFits redoEntry redonePlayer declines unless
   redo-kept es [] r g = record { journal = j; same = rw (state-passes s n (M es [] r) j ok (omega arith) g _); good = later s n (M es [] r) j g }
   redo-kept es (e ∷ us) r g =
       let f = g .fore .0 .fair in
@@ -49,7 +49,8 @@ module _ (s : List ℕ) (n : ℕ) (j : Journal) (ok : sheetOk s ≡ true) (few :
             rw (state-passes s n (M es (e ∷ us) r) j ok (omega arith) g _, g .fore .0 .is, redo-fits s ks es e f, suc-not (length us))
             (cc (made-again s ks es e, add-one (length es), less-one (length us)));
         good =
-            record {
+            rw (suc-not (length us))
+            (record {
               whole = g .whole;
               sane = unfold replay in f .made;
               seen = g .seen;
@@ -59,5 +60,5 @@ module _ (s : List ℕ) (n : ℕ) (j : Journal) (ok : sheetOk s ≡ true) (few :
               below = omega arith;
               sums = omega arith;
               few = omega arith;
-            };
+            });
       }

@@ -14,8 +14,8 @@ use Rattle.sheet.specs.Sheet.{sheetOk}
 use Rattle.player.specs.declared.Tick.{Tick}
 use Rattle.player.specs.declared.Tick.the-variants.{Idle, Running, Ended, Next}
 use Rattle.player.specs.declared.journal.Journal.{Journal}
-use Rattle.player.specs.View.{View, pickView, tickView, tickAnswer, ticks, tickSum, tickFrame, tickEnds, pickTick}
-use Rattle.menu.specs.Rows.{tickMoves, tickRows, tickTable}
+use Rattle.player.specs.View.{View, pickView, tickView, tickAnswer, ticks, tickSum, tickFrame, tickEnds, pickTick, tickMoves}
+use Rattle.menu.specs.Rows.{tickRows, tickTable}
 use Rattle.menu.specs.Calls.{pickPlayer, tickOf, nextNameOf}
 use Rattle.menu.specs.Named.{next-named}
 use Rattle.machine.specs.Calls.{tick, Answer, ticked, State, onNext}

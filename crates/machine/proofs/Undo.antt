@@ -12,7 +12,7 @@ use Rattle.player.specs.declared.journal.Journal.{Journal}
 use Rattle.player.specs.Keys.{Keys, keyAt, get-put, put-put, put-get}
 use Rattle.player.specs.View.{View}
 use Rattle.player.specs.Edit.{Edit, place, edited, madeEdit}
-use Rattle.player.specs.Undo.{returnsOk, undoRows, undoEntry, undoneKeys, undonePlayer}
+use Rattle.player.specs.Undo.{returnsOk, undoFits, undoRows, undoEntry, undoneKeys, undonePlayer}
 use Rattle.menu.specs.Rows.{undoTable}
 use Rattle.menu.specs.Calls.{entryFor, undoOf}
 use Rattle.machine.specs.Calls.{undo}
@@ -39,7 +39,7 @@ module _ (s : List ℕ) (n : ℕ) (j : Journal) (ok : sheetOk s ≡ true) (few :
   M es us r = record { loaded = ks; standing = es; redo = us; reach = r; accepted = a; undone = d; redone = c; view = v }
 
   pub undo-kept : (es us : List Edit) (r : ℕ) → Good s n (M es us r) j → Kept s n undo (M es us r) j
-  unfolding undoOf undoTable undoRows undoEntry undonePlayer declines unless
+  unfolding undoOf undoTable undoRows undoFits undoEntry undonePlayer declines unless
   undo-kept es us zero g = record { journal = j; same = rw (state-passes s n (M es us 0) j ok (omega arith) g _); good = later s n (M es us 0) j g }
   undo-kept [] us (suc r) g = absurd (g .back)
   undo-kept (e ∷ es) us (suc r) g =
@@ -48,17 +48,18 @@ module _ (s : List ℕ) (n : ℕ) (j : Journal) (ok : sheetOk s ≡ true) (few :
         journal = j;
         same =
             rw (state-passes s n (M (e ∷ es) us (suc r)) j ok (omega arith) g _, less-one (length es), g .back .0 .is, undo-fits s ks es e f, suc-not r)
-            (cc (taken-back s ks es e f, add-one (length us), less-one r));
+            (cc (taken-back s ks es e f, add-one (length us)));
         good =
-            record {
+            rw (suc-not r)
+            (record {
               whole = g .whole;
               sane = f .sane;
               seen = g .seen;
-              back = g .back .1;
+              back = rw (less-one r) (g .back .1);
               fore = (g .back .0, g .fore);
               room = omega arith;
               below = omega arith;
               sums = omega arith;
               few = omega arith;
-            };
+            });
       }

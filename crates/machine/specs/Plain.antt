@@ -1,7 +1,8 @@
 -- The plain machine (document 01, "Playing and editing"): fed the calls alone, it holds the loaded keys, the list of standing edits, the redo list,
 -- a reach of 0..128, three counts and a fresh player's view. It declines by the table on its own state. Definitions only.
-use Prim.Native.Nat.{ℕ, zero, suc, _+_, min}
+use Prim.Native.Nat.{ℕ, zero, suc, _+_, _-_, min}
 use mathlib.Core.List.{List, [], _∷_}
+use lib.ListN.{length}
 use lib.Ieee.{Float}
 use Rattle.laws.specs.Rows.{declines}
 use Rattle.sheet.specs.Rows.{nextName}
@@ -11,6 +12,7 @@ use Rattle.player.specs.Player.{rows}
 use Rattle.player.specs.View.{View, noView, playView, poseView, tickView, tickAnswer}
 use Rattle.player.specs.declared.edit.Request.{Request}
 use Rattle.player.specs.Edit.{Edit, madeEdit, editRows}
+use Rattle.player.specs.Undo.{takeRows}
 use Rattle.menu.specs.Rows.{playRows, poseRows, tickRows}
 use Rattle.machine.specs.Calls.{Call, play, pose, tick, edit, undo, redo, ask, Answer, number, ticked, told, onNext}
 use Rattle.machine.specs.Asks.{askRefusal, tellIn}
@@ -79,16 +81,15 @@ edits zero m e = (
 )
 edits (suc n) m e = (m, number (suc n))
 
--- Undo: the last standing edit moves to redo, reach − 1, undone + 1. (A reach above 0 with nothing standing doesn't come about.)
-abbrev pub undoes : Plain → ℕ → List Edit → Plain × Answer
-undoes m zero es = (m, number 11)
-undoes m (suc r) [] = (m, number 11)
-undoes m (suc r) (e ∷ es) = (
+-- Undo: the last standing edit moves to redo, reach − 1, undone + 1. (Nothing standing and no refusal doesn't come about.)
+abbrev pub undoes : ℕ → Plain → List Edit → Plain × Answer
+undoes zero m [] = (m, number 0)
+undoes zero m (e ∷ es) = (
   record {
     loaded = m .loaded;
     standing = es;
     redo = e ∷ m .redo;
-    reach = r;
+    reach = m .reach - 1;
     accepted = m .accepted;
     undone = m .undone + 1;
     redone = m .redone;
@@ -96,11 +97,12 @@ undoes m (suc r) (e ∷ es) = (
   },
   number 0,
 )
+undoes (suc n) m es = (m, number (suc n))
 
--- Redo: the edit moved last moves back, reach + 1, redone + 1.
-abbrev pub redoes : Plain → List Edit → Plain × Answer
-redoes m [] = (m, number 11)
-redoes m (e ∷ es) = (
+-- Redo: the edit moved last moves back, reach + 1, redone + 1. (Likewise.)
+abbrev pub redoes : ℕ → Plain → List Edit → Plain × Answer
+redoes zero m [] = (m, number 0)
+redoes zero m (e ∷ es) = (
   record {
     loaded = m .loaded;
     standing = e ∷ m .standing;
@@ -113,6 +115,7 @@ redoes m (e ∷ es) = (
   },
   number 0,
 )
+redoes (suc n) m es = (m, number (suc n))
 
 -- the edit that a call asks for now: in the active animation
 abbrev pub asked : Plain → ℕ → ℕ → Request → Edit
@@ -124,8 +127,8 @@ stepM s (play a) m = moves (declines (playRows s a)) m (playView a (m .view))
 stepM s (pose a x) m = moves (declines (poseRows x)) m (poseView s a x)
 stepM s (tick dt fps) m = ticksOn (declines (tickRows s (m .view) dt fps)) s dt fps m
 stepM s (edit track key r) m = edits (declines (editRows s (m .view .selection) (keysOf s m) track key r)) m (asked m track key r)
-stepM s undo m = undoes m (m .reach) (m .standing)
-stepM s redo m = redoes m (m .redo)
+stepM s undo m = undoes (declines (takeRows (m .reach))) m (m .standing)
+stepM s redo m = redoes (declines (takeRows (length (m .redo)))) m (m .redo)
 stepM s (ask b q) m = (m, told (tellIn s b (m .view) (keysOf s m) (askRefusal b q) q))
 
 -- freshly loaded

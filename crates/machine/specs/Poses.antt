@@ -4,7 +4,7 @@
 -- player and the plain machine use the same definition, so that the claim over lists can't notice a wrong one. Definitions only.
 use Prim.Native.Nat.{ℕ}
 use mathlib.Core.Bool.{Bool, true, false, _&&_, cond}
-use mathlib.Core.List.{List, [], _∷_, map}
+use mathlib.Core.List.{List, [], _∷_, _++_, map}
 use lib.Dec.{eqb}
 use lib.ListN.{replicate, getD, take}
 use lib.Ieee.{Float, binary32, nan, toBits}
@@ -25,9 +25,9 @@ use Rattle.player.specs.View.{withView}
 use Rattle.menu.specs.declared.playing.Played.{Played}
 use Rattle.menu.specs.declared.playing.Ticked.{Ticked}
 use Rattle.menu.specs.declared.readings.ReadOne.{ReadOne}
-use Rattle.menu.specs.Calls.{loadedOf, playOf, poseOf, tickOf, editOf}
+use Rattle.menu.specs.Calls.{loadedOf, playOf, poseOf, tickOf, editOf, nextNameOf}
 use Rattle.menu.specs.Readings.{readPaneOf, readMaterialOf, cascadeOf}
-use Rattle.machine.specs.Small.{over, below, minus, whole, Track, sheet, book, parent, child, material}
+use Rattle.machine.specs.Small.{over, below, minus, whole, name, Track, sheet, following, book, parent, child, material}
 
 -- ---- answers as numbers: a refusal first, and an f32 by its bits
 
@@ -168,16 +168,24 @@ curveAt curve ks x = readPane (moves curve ks) x translateX
 unfoldable pub tickAt : List ℕ → Float → Float → Float → List ℕ
 tickAt s x dt fps = ticked (tickOf s (playing s x) dt fps)
 
--- a player of 60 frames, posed at 5: play, pose and tick of it
+-- 60 frames of nothing, posed at 5: play and pose of it
 unfoldable pub playFrom5 : ℕ → List ℕ
 playFrom5 a = played (playOf (still 0) (posed (still 0) (whole 5)) a)
 
 unfoldable pub poseFrom5 : ℕ → Float → List ℕ
 poseFrom5 a x = played (poseOf (still 0) (posed (still 0) (whole 5)) a x)
 
--- half a second at 8 frames a second: what is met, and what is seen afterwards
+-- dt seconds at 8 frames a second: what is met, and what is seen afterwards
 unfoldable pub tickOn : List ℕ → Player → Float → List ℕ
 tickOn s p dt = let r = tickOf s p dt (whole 8) in r .refusal ∷ met (r .answer) ∷ seen (r .player)
+
+-- the last of two animations of 60 frames, with next names of their own, ticks from frame x: what is met and seen, and the name that `next_name`
+-- then has for the selection
+unfoldable pub endFrom : Float → List ℕ
+endFrom x =
+    let s = following 60 (4 ∷ 5 ∷ []) in
+    let r = tickOf s (viewing 1 true true x) (over 1 2) (whole 8) in
+    (r .refusal ∷ met (r .answer) ∷ seen (r .player)) ++ nextNameOf s (r .player .selection)
 
 -- channel x of the parent under a curve of the value 7, by a player of this view
 unfoldable pub readBy : Player → List ℕ
@@ -250,6 +258,7 @@ unfoldable pub shared : List Pose
 shared =
     -- Play as the Rust: from frame +0, playing, preview on; play of none does nothing; play from A up is declined by 6.
     playFrom5 0 gives (0 ∷ viewOn 0 1 1 zero')
+    ∷ played (playOf (still 0) (viewing none false false (whole 5)) 0) gives (0 ∷ viewOn 0 1 1 zero')
     ∷ playFrom5 none gives (0 ∷ viewOn 0 0 1 (whole 5))
     ∷ playFrom5 1 gives (6 ∷ viewOn 0 0 1 (whole 5))
     -- Pose: at the frame, not playing, preview on. Pose from A up clears the selection and sets frame to +0, as does pose of none.
@@ -265,6 +274,11 @@ shared =
     ∷ tickOn (still 0) (viewing none true true (whole 5)) (over 1 2) gives (0 ∷ 0 ∷ viewOn none 1 1 (whole 5))
     ∷ tickOn (still 0) (viewing 0 false true (whole 5)) (over 1 2) gives (0 ∷ 0 ∷ viewOn 0 0 1 (whole 5))
     ∷ tickOn (still 0) (viewing 0 false true (whole 5)) nan gives (8 ∷ 0 ∷ viewOn 0 0 1 (whole 5))
+    -- Running: preview stays as it is. Ended: at the frame count, no longer playing.
+    ∷ tickOn (still 1) (viewing 0 true false (whole 2)) (over 1 2) gives (0 ∷ 1 ∷ viewOn 0 1 0 (whole 6))
+    ∷ tickOn (still 0) (viewing 0 true true (whole 58)) (over 1 2) gives (0 ∷ 2 ∷ viewOn 0 0 1 (whole 60))
+    -- Ended with a next name: that of the animation that ended, all 24 bytes of it.
+    ∷ endFrom (whole 58) gives ((0 ∷ 3 ∷ viewOn 1 0 1 (whole 60)) ++ name 5)
     -- The remainder has the dividend's sign and is taken at the frame count or past it alone: a negative dt leaves frames below 0 as they are.
     ∷ tickOn (still 1) (viewing 0 true true (whole 2)) (below 1 2) gives (0 ∷ 1 ∷ viewOn 0 1 1 (minus 2))
     ∷ tickOn (still 0) (viewing 0 true true (whole 2)) (below 1 2) gives (0 ∷ 1 ∷ viewOn 0 1 1 (minus 2))

@@ -74,6 +74,14 @@ sheet n looping ts =
     ++ u16 n ++ (looping ∷ 0 ∷ replicate 24 0)
     ++ contents ts ++ targets 0 0 ts ++ frames (allKeys ts) ++ points (allKeys ts)
 
+-- animations of n frames that don't loop and have these next names; nothing is moved
+unfoldable pub followed : ℕ → List ℕ → List ℕ
+followed n [] = []
+followed n (k ∷ ks) = u16 n ++ (0 ∷ 1 ∷ name k) ++ followed n ks
+
+unfoldable pub following : ℕ → List ℕ → List ℕ
+following n ks = u16 (length ks) ++ replicate 10 0 ++ followed n ks
+
 -- ---- a book
 
 -- a pane: its label, parent and flags; alpha 255, origins 0, and +0 throughout

@@ -1,7 +1,7 @@
 -- What each reading is on each side of its refusal. Assumes nothing.
 use Prim.Native.Nat.{ℕ, _<_, _≤_}
 use mathlib.Core.Path.{_≡_, refl, sym, _∙_}
-use mathlib.Core.Bool.{Bool, true, false, not, _&&_, cond}
+use mathlib.Core.Bool.{Bool, true, false, not, _&&_, _||_, cond}
 use mathlib.Core.List.{List, []}
 use native.Mathlib.Omega.{arith}
 use borrow.Author.Tests.{ne-eqb, eq-eqb, eqb-true, ltb-true, lt-ltb, le-ltb, not-true, not-false}
@@ -109,6 +109,13 @@ module _ {m : ℕ} (e : 0 ≡ m) where
 pub seven : _≡_ {A = ℕ} 7 0 → ⊥
 seven z = omega arith
 
+-- row 6's test of play, over a size that a call gave
+pub play-no : (a n : ℕ) {k m : ℕ} → k ≡ m → not (eqb a n || ltb a k) ≡ true → (eqb a n || ltb a m) ≡ false
+play-no a n {k} e t = rw (← e) (not-true (eqb a n || ltb a k) t)
+
+pub play-yes : (a n : ℕ) {k m : ℕ} → k ≡ m → not (eqb a n || ltb a k) ≡ false → (eqb a n || ltb a m) ≡ true
+play-yes a n {k} e t = rw (← e) (not-false (eqb a n || ltb a k) t)
+
 -- two tests that code joined, over a size that a call gave
 pub in-no : (i c l : ℕ) {k p : ℕ} → k ≡ p → not (ltb i k && ltb c l) ≡ true → (ltb i p && ltb c l) ≡ false
 in-no i c l {k} {p} e t = rw (← e) (not-true (ltb i k && ltb c l) t)
@@ -140,13 +147,13 @@ one-below i {k} {p} e t = ltb-true i p (one-yes i e t)
 
 -- ---- the cascade
 module _ (s b : List ℕ) (p : Player) (fs vs ss : List Float) (visible : List ℕ) (alpha influence : List Float) (n : ℕ) (e : n ≡ declines (cascadeTable s b p (keys fs vs ss) visible alpha influence)) where
-  pub rows-refused : (n ≡ 0 → ⊥) → gaveCascade n visible alpha influence ≡ cascadeOf s b p (keys fs vs ss) visible alpha influence
+  pub cascade-refused : (n ≡ 0 → ⊥) → gaveCascade n visible alpha influence ≡ cascadeOf s b p (keys fs vs ss) visible alpha influence
   unfolding cascadeOf cascadedOf
-  rows-refused d = rw (← e, ne-eqb n 0 d)
+  cascade-refused d = rw (← e, ne-eqb n 0 d)
 
-  pub rows-long : n ≡ 0 → (length visible ≡ paneCount b) × ((length alpha ≡ paneCount b) × (length influence ≡ paneCount b))
+  pub cascade-long : n ≡ 0 → (length visible ≡ paneCount b) × ((length alpha ≡ paneCount b) × (length influence ≡ paneCount b))
   unfolding cascadeTable cascadeRows
-  rows-long z =
+  cascade-long z =
       let h = held _ tt (first-held (readingRows s b p (keys fs vs ss)) _ tt (sym e ∙ z) .1) .0 in
       let k = and-1 (eqb (length visible) (paneCount b) && eqb (length alpha) (paneCount b)) (eqb (length influence) (paneCount b)) h in (
         eqb-true _ _ (and-1 (eqb (length visible) (paneCount b)) (eqb (length alpha) (paneCount b)) k),
@@ -156,10 +163,10 @@ module _ (s b : List ℕ) (p : Player) (fs vs ss : List Float) (visible : List �
         ),
       )
 
-  pub rows-made : (a : Active) (visible′ : List ℕ) (alpha′ influence′ : List Float) → n ≡ 0 → a ≡ activeIn (viewOf p) → visible′ ≡ visibles s b fs vs ss a → alpha′ ≡ alphas s b fs vs ss a → influence′ ≡ influences s b fs vs ss a
+  pub cascade-made : (a : Active) (visible′ : List ℕ) (alpha′ influence′ : List Float) → n ≡ 0 → a ≡ activeIn (viewOf p) → visible′ ≡ visibles s b fs vs ss a → alpha′ ≡ alphas s b fs vs ss a → influence′ ≡ influences s b fs vs ss a
       → gaveCascade 0 visible′ alpha′ influence′ ≡ cascadeOf s b p (keys fs vs ss) visible alpha influence
   unfolding cascadeOf cascadedOf
-  rows-made a visible′ alpha′ influence′ z h x y w = rw (← e, z, x, y, w, h)
+  cascade-made a visible′ alpha′ influence′ z h x y w = rw (← e, z, x, y, w, h)
 
 -- ---- names: empty where the call is declined
 pub name-refused : {n m : ℕ} (x : List ℕ) → n ≡ m → (n ≡ 0 → ⊥) → [] ≡ cond (eqb m 0) x []

@@ -20,7 +20,7 @@ use Rattle.player.specs.declared.edit.Request.{Request}
 use Rattle.player.specs.declared.edit.Spot.{Spot}
 use Rattle.player.specs.Keys.{keys, keyAt, putKey}
 use Rattle.player.specs.Player.{none, hasKey}
-use Rattle.player.specs.Edit.{place, spotOf, editedAt, edited, keyIn, editRows}
+use Rattle.player.specs.Edit.{place, spotOf, editedAt, edited, requestRows, keyIn, editRows}
 use Rattle.player.specs.Spot.{Inside, InsideAll}
 use Rattle.player.specs.Counts.{CanEdit}
 use Rattle.player.specs.Undo.{editedPlayer}
@@ -64,7 +64,7 @@ module _ (s : List ℕ) (p : Player) (fs vs ss : List Float) (track key : ℕ) (
   pub allowed : n ≡ 0 → Allowed s p fs vs ss track key
   unfolding editTable editRows
   allowed z =
-      let w = state-ready s p (keys fs vs ss) _ e z in
+      let w = state-ready s p fs vs ss _ e z in
       let own = first-held (stateRows s p (keys fs vs ss)) _ tt (sym e ∙ z) .1 in
       let a = first-held (row 6 (not (eqb (p .selection) none)) ∷ row 7 (keyIn s (p .selection) track key) ∷ []) _ tt own .0 in
       let h = in-has s (p .selection) track key (a .1 .0) in
@@ -88,8 +88,13 @@ module _ (s : List ℕ) (p : Player) (fs vs ss : List Float) (track key : ℕ) (
   made-is x b a q fs′ vs′ ss′ z l h k m f v t = rw (← e, z, m, f, v, t, k, h, l)
 
 -- a selection is none, or is not
-pub is-zero-none : {a : ℕ} → a ≡ none → not (eqb a none) ≡ false
-is-zero-none e = rw e
+pub is-none : {a : ℕ} → a ≡ none → not (eqb a none) ≡ false
+is-none e = rw e
 
 pub not-none : {a : ℕ} → (a ≡ none → ⊥) → not (eqb a none) ≡ true
 not-none {a} d = rw (ne-eqb a none d)
+
+-- the request's rows, at the spot that a call gave
+pub request-at : (s : List ℕ) (fs : List Float) (track key : ℕ) (r : Request) {n : ℕ} {x : Spot} → x ≡ spotOf s track key → n ≡ declines (requestRows fs x r)
+    → n ≡ declines (requestRows fs (spotOf s track key) r)
+request-at s fs track key r e h = rw (← e) h

@@ -1,14 +1,14 @@
 -- What follows from the refusal of an undo or a redo, and what `undoOf` and `redoOf` are on each side of it. Assumes nothing.
-use Prim.Native.Nat.{ℕ, _+_, _-_, _<_}
+use Prim.Native.Nat.{ℕ, _<_}
 use mathlib.Core.Path.{_≡_, sym, _∙_, ap}
-use mathlib.Core.Bool.{Bool, true, false, not, _||_}
-use mathlib.Core.List.{List, [], _∷_, _++_}
+use mathlib.Core.Bool.{Bool, true}
+use mathlib.Core.List.{List, _∷_, _++_}
 use native.Mathlib.Omega.{arith}
 use borrow.Author.Tests.{ne-eqb, eqb-false, not-true}
 use lib.Dec.{eqb}
 use lib.ListN.{set}
 use lib.Ieee.{Float}
-use Rattle.laws.specs.Rows.{Row, row, declines, fails, passes, no-rows, held, first-held}
+use Rattle.laws.specs.Rows.{row, declines, held, first-held}
 use Rattle.sheet.specs.Sizes.{targetCount}
 use Rattle.sheet.specs.Checked.{Checked}
 use Rattle.curve.specs.declared.Key.{Key}
@@ -20,8 +20,9 @@ use Rattle.player.specs.Player.{entryOk}
 use Rattle.player.specs.Edit.{place, spotOf}
 use Rattle.player.specs.Spot.{InsideAll}
 use Rattle.player.specs.Counts.{CanUndo, CanRedo}
-use Rattle.player.specs.Undo.{returnsOk, undoEntry, redoEntry, undoRows, redoRows, undoneKeys, redoneKeys, undonePlayer, redonePlayer}
-use Rattle.player.specs.Sound.{Sound, used-ok}
+use Rattle.player.specs.Undo.{undoEntry, redoEntry, undoFits, redoFits, takeRows, undoRows, redoRows, undoneKeys, redoneKeys, undonePlayer, redonePlayer}
+use Rattle.player.specs.Sound.{Sound}
+use Rattle.player.specs.Takes.{undo-used, redo-used}
 use Rattle.menu.specs.Rows.{stateRows, undoTable, redoTable}
 use Rattle.menu.specs.Calls.{Changed, gave, changed, undoOf, redoOf}
 use Rattle.menu.proofs.Checks.{StateReady, state-ready}
@@ -33,51 +34,27 @@ pub record Taken (s : List ℕ) (fs vs ss : List Float) (e : Entry) : Type 0 whe
   pub on : e .track < targetCount s
   pub inside : InsideAll fs vs ss (spotOf s (e .track) (e .key))
 
--- the entry that an undo takes, and the one that a redo takes, name a key of the sheet
-pub undo-used : {s : List ℕ} {p : Player} → Sound s p → (p .reach ≡ 0 → ⊥) → entryOk s (undoEntry p) ≡ true
-unfolding undoEntry
-undo-used {s} {p} w d = used-ok w (p .standing - 1) (omega (arith, w .counts .below)) (omega (arith, w .counts .below))
-
-pub redo-used : {s : List ℕ} {p : Player} → Sound s p → (p .redo ≡ 0 → ⊥) → entryOk s (redoEntry p) ≡ true
-unfolding redoEntry
-redo-used {s} {p} w d = used-ok w (p .standing) (omega arith) (omega arith)
-
 pub taken : {s : List ℕ} {p : Player} {fs vs ss : List Float} → StateReady s p (keys fs vs ss) → (e : Entry) → entryOk s e ≡ true → Taken s fs vs ss e
 taken w e h = record { sheet = w .sheet; on = has-track _ (e .track) (e .key) h; inside = inside-all (e .track) (e .key) (w .sheet) (w .frames) (w .values) (w .slopes) h }
 
--- the two rows of each, by whether there is an entry
-abbrev pub takeRows : ℕ → Bool → List Row
-takeRows k b = row 5 (eqb k 0 || b) ∷ row 11 (not (eqb k 0)) ∷ []
-
-module _ (k : ℕ) (b : Bool) where
-  pub none-left : k ≡ 0 → 11 ≡ declines (takeRows k b)
-  none-left e = passes 5 _ (rw e) (fails 11 _ (rw e))
-
-  pub not-fit : (k ≡ 0 → ⊥) → b ≡ false → 5 ≡ declines (takeRows k b)
-  not-fit d e = fails 5 _ (rw (ne-eqb k 0 d, e))
-
-  pub fit : (k ≡ 0 → ⊥) → b ≡ true → 0 ≡ declines (takeRows k b)
-  fit d e = passes 5 _ (rw (ne-eqb k 0 d, e)) (passes 11 _ (rw (ne-eqb k 0 d)) no-rows)
-
-  pub some-left : declines (takeRows k b) ≡ 0 → k ≡ 0 → ⊥
-  some-left e = eqb-false k 0 (not-true (eqb k 0) (held (takeRows k b) tt e .1 .0))
-
--- Both calls, over the entry x that they take: `left` is how many there are, the key must be as `was`, and `back` is what is put in its place.
-module _ (s : List ℕ) (p : Player) (fs vs ss : List Float) (left : ℕ) (x : Entry) (was back : Key) (n : ℕ)
-    (e : n ≡ declines (stateRows s p (keys fs vs ss) ++ takeRows left (returnsOk s (keys fs vs ss) x was back))) where
+-- Both calls, over the entry x that they take, one of `left`: `fits` is row 5's test of it, and `back` is what is put in its key's place.
+module _ (s : List ℕ) (p : Player) (fs vs ss : List Float) (left : ℕ) (fits : Bool) (x : Entry) (back : Key) (n : ℕ)
+    (e : n ≡ declines (stateRows s p (keys fs vs ss) ++ (row 5 fits ∷ takeRows left))) where
   abbrev result : Player → Changed
   result q =
-      changed (declines (stateRows s p (keys fs vs ss) ++ takeRows left (returnsOk s (keys fs vs ss) x was back))) p (keys fs vs ss) q
+      changed (declines (stateRows s p (keys fs vs ss) ++ (row 5 fits ∷ takeRows left))) p (keys fs vs ss) q
       (putKey (keys fs vs ss) (place s (x .track) (x .key)) back)
 
   pub take-refused : (q : Player) → (n ≡ 0 → ⊥) → gave (record { refusal = n; player = p }) (keys fs vs ss) ≡ result q
   take-refused q d = rw (← e, ne-eqb n 0 d)
 
   pub take-ready : n ≡ 0 → StateReady s p (keys fs vs ss)
-  take-ready z = state-ready s p (keys fs vs ss) _ e z
+  take-ready z = state-ready s p fs vs ss _ e z
 
   pub take-some : n ≡ 0 → left ≡ 0 → ⊥
-  take-some z = some-left left _ (first-held (stateRows s p (keys fs vs ss)) _ tt (sym e ∙ z) .1)
+  take-some z =
+      let own = held (row 5 fits ∷ takeRows left) tt (first-held (stateRows s p (keys fs vs ss)) _ tt (sym e ∙ z) .1) in
+      eqb-false left 0 (not-true (eqb left 0) (own .1 .0))
 
   pub take-made : (q : Player) (y : Entry) (t : Spot) (r : Player) (k : Key) (fs′ vs′ ss′ : List Float) → n ≡ 0 → y ≡ x → t ≡ spotOf s (y .track) (y .key) → r ≡ q → k ≡ back
       → fs′ ≡ set fs (t .at) (k .frame) → vs′ ≡ set vs (t .at) (k .value) → ss′ ≡ set ss (t .at) (k .slope)
@@ -100,48 +77,48 @@ can-redo {s} {p} w d =
 module _ (s : List ℕ) (p : Player) (fs vs ss : List Float) (n : ℕ) (e : n ≡ declines (undoTable s p (keys fs vs ss))) where
   pub undo-refused : (n ≡ 0 → ⊥) → gave (record { refusal = n; player = p }) (keys fs vs ss) ≡ undoOf s p (keys fs vs ss)
   unfolding undoOf undoTable undoRows undoneKeys
-  undo-refused d = take-refused s p fs vs ss (p .reach) (undoEntry p) (undoEntry p .after) (undoEntry p .before) n e (undonePlayer p) d
+  undo-refused d = take-refused s p fs vs ss (p .reach) (undoFits s p (keys fs vs ss)) (undoEntry p) (undoEntry p .before) n e (undonePlayer p) d
 
   pub undo-can : n ≡ 0 → CanUndo p
   unfolding undoTable undoRows
   undo-can z =
-      can-undo (take-ready s p fs vs ss (p .reach) (undoEntry p) (undoEntry p .after) (undoEntry p .before) n e z .player)
-      (take-some s p fs vs ss (p .reach) (undoEntry p) (undoEntry p .after) (undoEntry p .before) n e z)
+      can-undo (take-ready s p fs vs ss (p .reach) (undoFits s p (keys fs vs ss)) (undoEntry p) (undoEntry p .before) n e z .player)
+      (take-some s p fs vs ss (p .reach) (undoFits s p (keys fs vs ss)) (undoEntry p) (undoEntry p .before) n e z)
 
   pub undo-taken : n ≡ 0 → Taken s fs vs ss (undoEntry p)
   unfolding undoTable undoRows
   undo-taken z =
-      let w = take-ready s p fs vs ss (p .reach) (undoEntry p) (undoEntry p .after) (undoEntry p .before) n e z in
-      taken w (undoEntry p) (undo-used (w .player) (take-some s p fs vs ss (p .reach) (undoEntry p) (undoEntry p .after) (undoEntry p .before) n e z))
+      let w = take-ready s p fs vs ss (p .reach) (undoFits s p (keys fs vs ss)) (undoEntry p) (undoEntry p .before) n e z in
+      taken w (undoEntry p) (undo-used (w .player) (take-some s p fs vs ss (p .reach) (undoFits s p (keys fs vs ss)) (undoEntry p) (undoEntry p .before) n e z))
 
   pub undo-made : (y : Entry) (t : Spot) (r : Player) (fs′ vs′ ss′ : List Float) → n ≡ 0 → y ≡ undoEntry p → t ≡ spotOf s (y .track) (y .key) → r ≡ undonePlayer p
       → fs′ ≡ set fs (t .at) (y .before .frame) → vs′ ≡ set vs (t .at) (y .before .value) → ss′ ≡ set ss (t .at) (y .before .slope)
       → gave (record { refusal = 0; player = r }) (keys fs′ vs′ ss′) ≡ undoOf s p (keys fs vs ss)
   unfolding undoOf undoTable undoRows undoneKeys
   undo-made y t r fs′ vs′ ss′ z a b d f v g =
-      take-made s p fs vs ss (p .reach) (undoEntry p) (undoEntry p .after) (undoEntry p .before) n e (undonePlayer p) y t r (y .before) fs′ vs′ ss′ z a b d (ap (λ x. x .before) a) f v g
+      take-made s p fs vs ss (p .reach) (undoFits s p (keys fs vs ss)) (undoEntry p) (undoEntry p .before) n e (undonePlayer p) y t r (y .before) fs′ vs′ ss′ z a b d (ap (λ x. x .before) a) f v g
 
 -- ---- redo
 module _ (s : List ℕ) (p : Player) (fs vs ss : List Float) (n : ℕ) (e : n ≡ declines (redoTable s p (keys fs vs ss))) where
   pub redo-refused : (n ≡ 0 → ⊥) → gave (record { refusal = n; player = p }) (keys fs vs ss) ≡ redoOf s p (keys fs vs ss)
   unfolding redoOf redoTable redoRows redoneKeys
-  redo-refused d = take-refused s p fs vs ss (p .redo) (redoEntry p) (redoEntry p .before) (redoEntry p .after) n e (redonePlayer p) d
+  redo-refused d = take-refused s p fs vs ss (p .redo) (redoFits s p (keys fs vs ss)) (redoEntry p) (redoEntry p .after) n e (redonePlayer p) d
 
   pub redo-can : n ≡ 0 → CanRedo p
   unfolding redoTable redoRows
   redo-can z =
-      can-redo (take-ready s p fs vs ss (p .redo) (redoEntry p) (redoEntry p .before) (redoEntry p .after) n e z .player)
-      (take-some s p fs vs ss (p .redo) (redoEntry p) (redoEntry p .before) (redoEntry p .after) n e z)
+      can-redo (take-ready s p fs vs ss (p .redo) (redoFits s p (keys fs vs ss)) (redoEntry p) (redoEntry p .after) n e z .player)
+      (take-some s p fs vs ss (p .redo) (redoFits s p (keys fs vs ss)) (redoEntry p) (redoEntry p .after) n e z)
 
   pub redo-taken : n ≡ 0 → Taken s fs vs ss (redoEntry p)
   unfolding redoTable redoRows
   redo-taken z =
-      let w = take-ready s p fs vs ss (p .redo) (redoEntry p) (redoEntry p .before) (redoEntry p .after) n e z in
-      taken w (redoEntry p) (redo-used (w .player) (take-some s p fs vs ss (p .redo) (redoEntry p) (redoEntry p .before) (redoEntry p .after) n e z))
+      let w = take-ready s p fs vs ss (p .redo) (redoFits s p (keys fs vs ss)) (redoEntry p) (redoEntry p .after) n e z in
+      taken w (redoEntry p) (redo-used (w .player) (take-some s p fs vs ss (p .redo) (redoFits s p (keys fs vs ss)) (redoEntry p) (redoEntry p .after) n e z))
 
   pub redo-made : (y : Entry) (t : Spot) (r : Player) (fs′ vs′ ss′ : List Float) → n ≡ 0 → y ≡ redoEntry p → t ≡ spotOf s (y .track) (y .key) → r ≡ redonePlayer p
       → fs′ ≡ set fs (t .at) (y .after .frame) → vs′ ≡ set vs (t .at) (y .after .value) → ss′ ≡ set ss (t .at) (y .after .slope)
       → gave (record { refusal = 0; player = r }) (keys fs′ vs′ ss′) ≡ redoOf s p (keys fs vs ss)
   unfolding redoOf redoTable redoRows redoneKeys
   redo-made y t r fs′ vs′ ss′ z a b d f v g =
-      take-made s p fs vs ss (p .redo) (redoEntry p) (redoEntry p .before) (redoEntry p .after) n e (redonePlayer p) y t r (y .after) fs′ vs′ ss′ z a b d (ap (λ x. x .after) a) f v g
+      take-made s p fs vs ss (p .redo) (redoFits s p (keys fs vs ss)) (redoEntry p) (redoEntry p .after) n e (redonePlayer p) y t r (y .after) fs′ vs′ ss′ z a b d (ap (λ x. x .after) a) f v g

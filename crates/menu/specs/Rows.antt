@@ -1,53 +1,54 @@
 -- The rows of document 01's table "What a call declines" that look at what the calls of this crate take, and each call's whole list, in the order in
 -- which its rows are looked at. `..Rows` is a part of a list, `..Table` a call's list. Definitions only.
 use Prim.Native.Nat.{ℕ}
-use mathlib.Core.Bool.{Bool, not, _&&_, _||_}
+use mathlib.Core.Bool.{_&&_, _||_}
 use mathlib.Core.List.{List, [], _∷_, _++_}
 use lib.Dec.{eqb, ltb}
 use lib.ListN.{length}
 use lib.Ieee.{Float}
 use Rattle.laws.specs.Rows.{Row, row}
 use Rattle.float.specs.Numbers.{finite}
-use Rattle.sheet.specs.Sizes.{animationCount, keyCount}
+use Rattle.sheet.specs.Sizes.{animationCount}
 use Rattle.sheet.specs.Sheet.{sheetOk}
 use Rattle.book.specs.Sizes.{paneCount, materialCount}
 use Rattle.book.specs.Book.{bookOk}
-use Rattle.channel.specs.Channel.{paneChannels, materialChannels, channelCount}
+use Rattle.keys.specs.Load.{lentRows}
+use Rattle.channel.specs.Channel.{paneChannels, materialChannels, materialLayers, channelCount}
 use Rattle.player.specs.declared.Player.{Player}
 use Rattle.player.specs.declared.edit.Request.{Request}
 use Rattle.player.specs.Keys.{Keys}
 use Rattle.player.specs.Player.{none, playerOk}
-use Rattle.player.specs.View.{View, viewOf, ticks, tickSum, tickFrame}
+use Rattle.player.specs.View.{View, viewOf, tickMoves}
 use Rattle.player.specs.Edit.{editRows}
-use Rattle.player.specs.Undo.{keysOkOf, undoRows, redoRows}
+use Rattle.player.specs.Undo.{undoRows, redoRows}
 
 -- ---- what calls take
 
--- each key array is n long
-abbrev pub lengthsAre : ℕ → Keys → Bool
-lengthsAre n ks = eqb (length (ks .frames)) n && eqb (length (ks .values)) n && eqb (length (ks .slopes)) n
+-- keys: rows 3 and 4
+abbrev pub heldRows : List ℕ → Keys → List Row
+heldRows s ks = lentRows s (ks .frames) (ks .values) (ks .slopes)
 
--- row 3: each key array is K long
-unfoldable pub lengthsOk : List ℕ → Keys → Bool
-lengthsOk s ks = lengthsAre (keyCount s) ks
+-- a player: row 5
+abbrev pub brokenRows : List ℕ → Player → List Row
+brokenRows s p = row 5 (playerOk s p) ∷ []
 
 -- sheet and player
 abbrev pub playerRows : List ℕ → Player → List Row
-playerRows s p = row 1 (sheetOk s) ∷ row 5 (playerOk s p) ∷ []
+playerRows s p = row 1 (sheetOk s) ∷ brokenRows s p
 
 -- sheet and keys; with a player as well
 abbrev pub keysRows : List ℕ → Keys → List Row
-keysRows s ks = row 1 (sheetOk s) ∷ row 3 (lengthsOk s ks) ∷ row 4 (keysOkOf s ks) ∷ []
+keysRows s ks = row 1 (sheetOk s) ∷ heldRows s ks
 
 abbrev pub stateRows : List ℕ → Player → Keys → List Row
-stateRows s p ks = keysRows s ks ++ (row 5 (playerOk s p) ∷ [])
+stateRows s p ks = keysRows s ks ++ brokenRows s p
 
 -- sheet, book and keys; with a player as well
 abbrev pub bookRows : List ℕ → List ℕ → Keys → List Row
-bookRows s b ks = row 1 (sheetOk s) ∷ row 2 (bookOk b) ∷ row 3 (lengthsOk s ks) ∷ row 4 (keysOkOf s ks) ∷ []
+bookRows s b ks = row 1 (sheetOk s) ∷ row 2 (bookOk b) ∷ heldRows s ks
 
 abbrev pub readingRows : List ℕ → List ℕ → Player → Keys → List Row
-readingRows s b p ks = bookRows s b ks ++ (row 5 (playerOk s p) ∷ [])
+readingRows s b p ks = bookRows s b ks ++ brokenRows s p
 
 -- ---- the rows of the arguments
 
@@ -60,9 +61,6 @@ unfoldable pub poseRows : Float → List Row
 poseRows x = row 8 (finite x) ∷ []
 
 -- row 8 of tick: its arguments, and in a playing tick the sum and the frame that it would leave
-unfoldable pub tickMoves : List ℕ → View → Float → Float → Bool
-tickMoves s v dt fps = not (ticks v) || finite (tickSum v dt fps) && finite (tickFrame s (v .selection) (tickSum v dt fps))
-
 unfoldable pub tickRows : List ℕ → View → Float → Float → List Row
 tickRows s v dt fps = row 8 (finite dt && finite fps) ∷ row 8 (tickMoves s v dt fps) ∷ []
 
@@ -76,9 +74,9 @@ paneChannelRows b pane c = row 7 (ltb pane (paneCount b) && ltb c paneChannels) 
 unfoldable pub materialChannelRows : List ℕ → ℕ → ℕ → List Row
 materialChannelRows b m c = row 7 (ltb m (materialCount b) && ltb c materialChannels) ∷ []
 
--- a material's layer, and its texture slot: three of each
+-- a material's layer, and its texture slot: as many of each
 unfoldable pub layerRows : List ℕ → ℕ → ℕ → List Row
-layerRows b m layer = row 7 (ltb m (materialCount b) && ltb layer 3) ∷ []
+layerRows b m layer = row 7 (ltb m (materialCount b) && ltb layer materialLayers) ∷ []
 
 -- row 13: outputs not exactly as long
 unfoldable pub tablesRows : List ℕ → List ℕ → List Float → List Row

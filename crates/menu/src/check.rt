@@ -2,14 +2,12 @@
 use laws::refusal::ACCEPTED;
 use laws::refusal::BOOK_LAYOUT;
 use laws::refusal::BROKEN_STATE;
-use laws::refusal::KEY_ARRAY_LENGTH;
-use laws::refusal::KEY_RULES;
 use laws::refusal::SHEET_LAYOUT;
 use player::Player;
 ghost use mathlib.Core.Path.{_≡_};
 ghost use Rattle.laws.specs.Rows.{declines};
 ghost use Rattle.player.specs.Keys.{keys};
-ghost use Rattle.menu.specs.Rows.{lengthsAre, playerRows, keysRows, stateRows, bookRows, readingRows};
+ghost use Rattle.menu.specs.Rows.{playerRows, keysRows, stateRows, bookRows, readingRows};
 
 // Rows 1 and 5, and 0 where neither declines.
 pub fn check_player(p: Player, s: &[u8]) -> u8
@@ -24,13 +22,6 @@ pub fn check_player(p: Player, s: &[u8]) -> u8
     ACCEPTED
 }
 
-// Row 3: each key array is n long.
-fn lengths_ok(n: usize, frames: &[f32], values: &[f32], slopes: &[f32]) -> bool
-    ensures { λ r. ⌜ r ≡ lengthsAre n (keys (now (frames .entry)) (now (values .entry)) (now (slopes .entry))) ⌝ }
-{
-    (frames.len() == n) & (values.len() == n) & (slopes.len() == n)
-}
-
 // Rows 1, 3 and 4: sheet and keys, with no player.
 pub fn check_keys(s: &[u8], frames: &[f32], values: &[f32], slopes: &[f32]) -> u8
     ensures { λ r. ⌜ r ≡ declines (keysRows (now (s .entry)) (keys (now (frames .entry)) (now (values .entry)) (now (slopes .entry)))) ⌝ }
@@ -38,13 +29,7 @@ pub fn check_keys(s: &[u8], frames: &[f32], values: &[f32], slopes: &[f32]) -> u
     if !sheet::sheet_ok(s) {
         return SHEET_LAYOUT;
     }
-    if !lengths_ok(sheet::key_count(s), frames, values, slopes) {
-        return KEY_ARRAY_LENGTH;
-    }
-    if !keys::keys_ok(s, frames, values, slopes) {
-        return KEY_RULES;
-    }
-    ACCEPTED
+    keys::lent_refusal(s, frames, values, slopes)
 }
 
 // Those, and row 5.
@@ -71,13 +56,7 @@ pub fn check_book(s: &[u8], b: &[u8], frames: &[f32], values: &[f32], slopes: &[
     if !book::book_ok(b) {
         return BOOK_LAYOUT;
     }
-    if !lengths_ok(sheet::key_count(s), frames, values, slopes) {
-        return KEY_ARRAY_LENGTH;
-    }
-    if !keys::keys_ok(s, frames, values, slopes) {
-        return KEY_RULES;
-    }
-    ACCEPTED
+    keys::lent_refusal(s, frames, values, slopes)
 }
 
 // Those, and row 5.

@@ -1,4 +1,4 @@
-// The outward interface: each call checks by rising number, then makes its step. No function that is public here asks anything of its caller.
+// The outward interface: each call looks at its rows of the table in their order, then makes its step. No function that is public here asks anything of its caller.
 mod check;
 mod editing;
 mod loading;

@@ -6,7 +6,6 @@ use laws::refusal::NO_ANIMATION;
 use player::NONE;
 use player::Player;
 use player::Tick;
-use player::playing::tick_frame;
 ghost use mathlib.Core.Path.{_≡_};
 ghost use Rattle.laws.specs.Rows.{declines};
 ghost use Rattle.menu.specs.Rows.{playTable, poseTable, tickTable};
@@ -30,10 +29,10 @@ fn play_refusal(p: Player, s: &[u8], animation: u16) -> u8
     if n != ACCEPTED {
         return n;
     }
-    if (animation == NONE) | ((animation as usize) < sheet::animation_count(s)) {
-        return ACCEPTED;
+    if !((animation == NONE) | ((animation as usize) < sheet::animation_count(s))) {
+        return NO_ANIMATION;
     }
-    NO_ANIMATION
+    ACCEPTED
 }
 
 // Plays an animation from its start. Refusals 1, 5, 6.
@@ -60,10 +59,10 @@ fn pose_refusal(p: Player, s: &[u8], frame: f32) -> u8
     if n != ACCEPTED {
         return n;
     }
-    if float::is_finite(frame) {
-        return ACCEPTED;
+    if !float::is_finite(frame) {
+        return BAD_ARGUMENT;
     }
-    BAD_ARGUMENT
+    ACCEPTED
 }
 
 // Holds an animation at a frame; none, and a number that the sheet doesn't have, clear the selection. Refusals 1, 5, 8.
@@ -83,7 +82,6 @@ pub fn pose(p: Player, s: &[u8], animation: u16, frame: f32) -> Played
     }
 }
 
-// The numbers of a playing tick are the sum, and the frame that it would leave; an idle tick has neither.
 fn tick_refusal(p: Player, s: &[u8], dt: f32, fps: f32) -> u8
     ensures { λ r. ⌜ r ≡ declines (tickTable (now (s .entry)) p dt fps) ⌝ }
 {
@@ -94,14 +92,10 @@ fn tick_refusal(p: Player, s: &[u8], dt: f32, fps: f32) -> u8
     if !(float::is_finite(dt) & float::is_finite(fps)) {
         return BAD_ARGUMENT;
     }
-    if !p.ticks() {
-        return ACCEPTED;
+    if !p.tick_moves(s, dt, fps) {
+        return BAD_ARGUMENT;
     }
-    let sum = p.tick_sum(dt, fps);
-    if float::is_finite(sum) & float::is_finite(tick_frame(s, p.selection as usize, sum)) {
-        return ACCEPTED;
-    }
-    BAD_ARGUMENT
+    ACCEPTED
 }
 
 // Lets dt seconds pass at fps frames a second. Refusals 1, 5, 8.

@@ -65,10 +65,10 @@ fn read_all_refusal(
         return n;
     }
     let count = channel::channel_count(b);
-    if (marks.len() == count) & (numbers.len() == count) {
-        return ACCEPTED;
+    if !((marks.len() == count) & (numbers.len() == count)) {
+        return OUTPUT_LENGTH;
     }
-    OUTPUT_LENGTH
+    ACCEPTED
 }
 
 // Every channel of the book: a mark (0 or 1) and a number each, panes first. Refusals 1 to 5, 13.

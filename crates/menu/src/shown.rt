@@ -1,6 +1,7 @@
 // A material slot's resolved texture name, and the cascade over the panes.
 use crate::check::check_reading;
 use crate::readings::active_in;
+use channel::MATERIAL_LAYERS;
 use laws::refusal::ACCEPTED;
 use laws::refusal::OUTPUT_LENGTH;
 use player::Player;
@@ -29,7 +30,7 @@ pub fn texture_name<'a>(
     }
     let i = material as usize;
     let k = slot as usize;
-    if !((i < book::material_count(b)) & (k < 3)) {
+    if !((i < book::material_count(b)) & (k < MATERIAL_LAYERS)) {
         return &s[0..0];
     }
     resolve::texture_name(s, b, frames, values, slopes, active_in(p), i, k)
@@ -53,10 +54,10 @@ fn cascade_refusal(
         return n;
     }
     let count = book::pane_count(b);
-    if (visible.len() == count) & (alpha.len() == count) & (influence.len() == count) {
-        return ACCEPTED;
+    if !((visible.len() == count) & (alpha.len() == count) & (influence.len() == count)) {
+        return OUTPUT_LENGTH;
     }
-    OUTPUT_LENGTH
+    ACCEPTED
 }
 
 // Each pane's visibility and alpha under its parents, and the influence that it hands its children. Refusals 1 to 5, 13.

@@ -8,6 +8,7 @@ use book::Srt;
 use book::Vector2;
 use book::Vector3;
 use channel::MATERIAL_CHANNELS;
+use channel::MATERIAL_LAYERS;
 use channel::PANE_CHANNELS;
 use laws::refusal::ACCEPTED;
 use laws::refusal::NO_SUCH_ROW;
@@ -179,7 +180,7 @@ pub fn resolve_srt(
     }
     let i = material as usize;
     let k = layer as usize;
-    if !((i < book::material_count(b)) & (k < 3)) {
+    if !((i < book::material_count(b)) & (k < MATERIAL_LAYERS)) {
         return no_srt(NO_SUCH_ROW);
     }
     let srt = resolve::resolve_srt(s, b, frames, values, slopes, active_in(p), i, k);

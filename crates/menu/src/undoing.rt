@@ -7,7 +7,6 @@ use laws::refusal::NOTHING_TO_TAKE;
 use player::Player;
 use player::edit::put_key;
 use player::edit::spot_of;
-use player::fits::returns_ok;
 ghost use mathlib.Core.Path.{_≡_};
 ghost use Rattle.laws.specs.Rows.{declines};
 ghost use Rattle.player.specs.Keys.{keys};
@@ -21,14 +20,13 @@ fn undo_refusal(p: Player, s: &[u8], frames: &[f32], values: &[f32], slopes: &[f
     if n != ACCEPTED {
         return n;
     }
+    if !p.undo_fits(s, frames, values, slopes) {
+        return BROKEN_STATE;
+    }
     if p.reach == 0 {
         return NOTHING_TO_TAKE;
     }
-    let e = p.undo_entry();
-    if returns_ok(s, frames, values, slopes, e, e.after, e.before) {
-        return ACCEPTED;
-    }
-    BROKEN_STATE
+    ACCEPTED
 }
 
 // Takes the last standing edit back. Refusals 1, 3 to 5, 11.
@@ -64,14 +62,13 @@ fn redo_refusal(p: Player, s: &[u8], frames: &[f32], values: &[f32], slopes: &[f
     if n != ACCEPTED {
         return n;
     }
+    if !p.redo_fits(s, frames, values, slopes) {
+        return BROKEN_STATE;
+    }
     if p.redo == 0 {
         return NOTHING_TO_TAKE;
     }
-    let e = p.redo_entry();
-    if returns_ok(s, frames, values, slopes, e, e.before, e.after) {
-        return ACCEPTED;
-    }
-    BROKEN_STATE
+    ACCEPTED
 }
 
 // Makes the edit that was undone last again. Refusals 1, 3 to 5, 11.

@@ -20,11 +20,9 @@ use Rattle.book.specs.Rows.{materialTexture}
 use Rattle.book.specs.Checked.{CheckedBook, checked-book}
 use Rattle.channel.specs.Channel.{slotChannel, ofMaterial}
 use Rattle.reading.specs.Reading.{reading}
-use Rattle.reading.specs.Overrides.{row-below}
 use Rattle.reading.specs.declared.Active.{Active}
-use Rattle.reading.specs.declared.Reading.{Reading}
-use Rattle.reading.specs.declared.Reading.the-variants.{Nothing, Number, Shown, Row, Level}
 use Rattle.resolve.specs.Resolve.{rowIn, nameFor, textureOf}
+use Rattle.resolve.specs.Textures.{named-below}
 use Rattle.player.specs.declared.Player.{Player}
 use Rattle.player.specs.Keys.{Keys}
 use Rattle.player.specs.View.{viewOf}
@@ -45,14 +43,6 @@ next-long s a e =
     let l = ltb-true a (animationCount s) (h .1 .0) in
     rw e (field-long s (12 + a * 28 + 4) (omega arith))
 
--- a row that is named is read
-is-row : (r : Reading) (k : ℕ) → rowIn r ≡ found.At k → r ≡ Row k
-is-row Nothing k e = let z : _≡_ {A = ℕ} 0 1 = cc in absurd (omega arith)
-is-row (Number v) k e = let z : _≡_ {A = ℕ} 0 1 = cc in absurd (omega arith)
-is-row (Shown b) k e = let z : _≡_ {A = ℕ} 0 1 = cc in absurd (omega arith)
-is-row (Row n) k e = let q : n ≡ k = cc in rw q
-is-row (Level l) k e = let z : _≡_ {A = ℕ} 0 1 = cc in absurd (omega arith)
-
 -- the texture name of a slot of a checked book, under a checked sheet
 texture-of-long : (s b : List ℕ) (fs vs ss : List Float) (a : Active) (m slot : ℕ) → Checked s → CheckedBook b → m < materialCount b → slot < 3
     → length (textureOf s b fs vs ss a m slot) ≡ nameBytes
@@ -60,7 +50,7 @@ unfolding textureOf textureName materialTexture
 texture-of-long s b fs vs ss a m slot w v h k = go (rowIn (reading s b fs vs ss a (ofMaterial b m (slotChannel slot)))) refl
   where
     go : (f : Found) → rowIn (reading s b fs vs ss a (ofMaterial b m (slotChannel slot))) ≡ f → length (nameFor s b fs vs ss a f m slot) ≡ nameBytes
-    go (found.At n) e = let l = row-below s b fs vs ss a (ofMaterial b m (slotChannel slot)) n (is-row _ n e) in field-long s (texturesAt s + n * 24) (omega arith)
+    go (found.At n) e = let l = named-below s b fs vs ss a (ofMaterial b m (slotChannel slot)) n e in field-long s (texturesAt s + n * 24) (omega arith)
     go found.Nothing e = field-long b (materialsAt b + m * 156 + 24 + slot * 24) (omega arith)
 
 pub texture-long : (s b : List ℕ) (p : Player) (ks : Keys) (m slot : ℕ) → declines (textureNameTable s b p ks m slot) ≡ 0

@@ -39,10 +39,6 @@ pub spot-fits : {s : List ℕ} → Checked s → (track key : ℕ) (row : Target
 spot-fits w track key row l e k = rw e (omega (arith, target-keys w track l))
 
 -- a tick of a player with a selection that plays, and of any other
-pub selected : (p : Player) (b : Bool) → b ≡ ticks (viewOf p) → not b ≡ false → p .selection ≡ none → ⊥
-unfolding ticks
-selected p b e t z = eqb-false (p .selection) none (not-true (eqb (p .selection) none) (and-1 (not (eqb (p .selection) none)) (p .playing) (sym e ∙ not-false b t))) z
-
 module _ (s : List ℕ) (p : Player) (dt fps : Float) (b : Bool) (t : b ≡ ticks (viewOf p)) where
   -- an idle tick
   pub idle-is : not b ≡ true → _≡_ {A = Stepped} (record { answer = Idle; player = p }) (steppedOf s p dt fps)

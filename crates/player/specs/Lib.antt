@@ -11,3 +11,4 @@ pub mod Sound
 pub mod Put
 pub mod Accepted
 pub mod Edits
+pub mod Takes

@@ -35,15 +35,23 @@ returnsOk s ks e now back =
     sameKey (keyAt ks (place s (e .track) (e .key))) now
     && keysOkOf s (putKey ks (place s (e .track) (e .key)) back)
 
--- rows 5 and 11 of an undo, of a player whose state is not broken: the entry's key may come back, and there is an entry
-unfoldable pub undoRows : List ℕ → Player → Keys → List Row
-undoRows s p ks =
-    row 5 (eqb (p .reach) 0 || returnsOk s ks (undoEntry p) (undoEntry p .after) (undoEntry p .before)) ∷ row 11 (not (eqb (p .reach) 0)) ∷ []
+-- row 5 of an undo, and of a redo: there is no entry to take, or its key may come back
+unfoldable pub undoFits : List ℕ → Player → Keys → Bool
+undoFits s p ks = eqb (p .reach) 0 || returnsOk s ks (undoEntry p) (undoEntry p .after) (undoEntry p .before)
 
--- and of a redo
+unfoldable pub redoFits : List ℕ → Player → Keys → Bool
+redoFits s p ks = eqb (p .redo) 0 || returnsOk s ks (redoEntry p) (redoEntry p .before) (redoEntry p .after)
+
+-- row 11: of n entries, one can be taken
+abbrev pub takeRows : ℕ → List Row
+takeRows n = row 11 (not (eqb n 0)) ∷ []
+
+-- rows 5 and 11 of an undo, and of a redo, of a player whose state is not broken
+unfoldable pub undoRows : List ℕ → Player → Keys → List Row
+undoRows s p ks = row 5 (undoFits s p ks) ∷ takeRows (p .reach)
+
 unfoldable pub redoRows : List ℕ → Player → Keys → List Row
-redoRows s p ks =
-    row 5 (eqb (p .redo) 0 || returnsOk s ks (redoEntry p) (redoEntry p .before) (redoEntry p .after)) ∷ row 11 (not (eqb (p .redo) 0)) ∷ []
+redoRows s p ks = row 5 (redoFits s p ks) ∷ takeRows (p .redo)
 
 -- the keys with an entry's key put back, or made again
 unfoldable pub undoneKeys : List ℕ → Keys → Entry → Keys

@@ -1,12 +1,12 @@
 -- What play, pose and tick move (document 01, "Playing and editing"): frame, playing, preview and selection, and nothing else. Assumes nothing.
 use Prim.Native.Nat.{ℕ}
 use mathlib.Core.Path.{_≡_, refl}
-use mathlib.Core.Bool.{Bool, true, false, not, _&&_, cond}
+use mathlib.Core.Bool.{Bool, true, false, not, _&&_, _||_, cond}
 use mathlib.Core.List.{List}
 use lib.Dec.{eqb, ltb}
 use lib.IntN.{pos}
 use lib.Ieee.{Float, binary32, le, lt, rem, ofInt}
-use Rattle.float.specs.Numbers.{zero', _⊕_, _⊗_}
+use Rattle.float.specs.Numbers.{zero', _⊕_, _⊗_, finite}
 use Rattle.sheet.specs.Sizes.{animationCount}
 use Rattle.sheet.specs.Rows.{animationRow}
 use Rattle.player.specs.declared.Player.{Player}
@@ -79,6 +79,10 @@ tickFrame s a sum = cond (le (countOf s a) sum) (cond (wraps s a) (rem binary32 
 
 unfoldable pub tickEnds : List ℕ → ℕ → Float → Bool
 tickEnds s a sum = le (countOf s a) sum && not (wraps s a)
+
+-- row 8: in a playing tick the sum, and the frame that it would leave, are finite
+unfoldable pub tickMoves : List ℕ → View → Float → Float → Bool
+tickMoves s v dt fps = not (ticks v) || finite (tickSum v dt fps) && finite (tickFrame s (v .selection) (tickSum v dt fps))
 
 abbrev pub pickTick : Bool → Tick → Tick → Tick
 pickTick true a b = a

@@ -1,4 +1,5 @@
 // Whether a key may stand in another's place: a look at that key and its two neighbours, not at all keys.
+use crate::Player;
 use crate::edit::Spot;
 use crate::edit::spot_of;
 use crate::journal::Entry;
@@ -13,8 +14,9 @@ ghost use mathlib.Core.Path.{_≡_};
 ghost use Rattle.keys.specs.Rules.{keyRule};
 ghost use Rattle.player.specs.Keys.{keys};
 ghost use Rattle.player.specs.Spot.{Inside};
-ghost use Rattle.player.specs.Undo.{returnsOk};
+ghost use Rattle.player.specs.Undo.{returnsOk, undoFits, redoFits};
 ghost use Rattle.player.specs.Put.{frameBefore, beforeNext, fitsAt, Returnable};
+ghost use Rattle.player.specs.Takes.{Takeable};
 
 // The rule of one key by its curve, with the frame before it.
 fn key_rule(curve: usize, before: f32, x: Key) -> bool
@@ -83,4 +85,30 @@ pub fn returns_ok(
         return false;
     }
     fits_at(frames, p, back)
+}
+
+impl Player {
+    // Row 5 of an undo: there is no entry to take, or its key may come back.
+    pub fn undo_fits(self, s: &[u8], frames: &[f32], values: &[f32], slopes: &[f32]) -> bool
+        requires { ⌜ Takeable (now s) (keys (now frames) (now values) (now slopes)) self ⌝ }
+        ensures { λ r. ⌜ r ≡ undoFits (now (s .entry)) self (keys (now (frames .entry)) (now (values .entry)) (now (slopes .entry))) ⌝ }
+    {
+        if self.reach == 0 {
+            return true;
+        }
+        let e = self.undo_entry();
+        returns_ok(s, frames, values, slopes, e, e.after, e.before)
+    }
+
+    // And of a redo.
+    pub fn redo_fits(self, s: &[u8], frames: &[f32], values: &[f32], slopes: &[f32]) -> bool
+        requires { ⌜ Takeable (now s) (keys (now frames) (now values) (now slopes)) self ⌝ }
+        ensures { λ r. ⌜ r ≡ redoFits (now (s .entry)) self (keys (now (frames .entry)) (now (values .entry)) (now (slopes .entry))) ⌝ }
+    {
+        if self.redo == 0 {
+            return true;
+        }
+        let e = self.redo_entry();
+        returns_ok(s, frames, values, slopes, e, e.before, e.after)
+    }
 }

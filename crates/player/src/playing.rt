@@ -2,11 +2,12 @@
 use crate::NONE;
 use crate::Player;
 use crate::Tick;
+use float::is_finite;
 ghost use mathlib.Core.Path.{_≡_};
 ghost use Prim.Native.Nat.{_<_};
 ghost use Rattle.sheet.specs.Sizes.{animationCount};
 ghost use Rattle.sheet.specs.Checked.{Checked};
-ghost use Rattle.player.specs.View.{viewOf, withView, playView, poseView, ticks, tickSum, countOf, wraps, tickFrame, tickEnds, endOf, tickView, tickAnswer};
+ghost use Rattle.player.specs.View.{viewOf, withView, playView, poseView, ticks, tickSum, countOf, wraps, tickFrame, tickMoves, tickEnds, endOf, tickView, tickAnswer};
 ghost use Rattle.player.specs.Ticked.{steppedOf, Selected};
 
 // What a tick answers, and the player after it.
@@ -59,6 +60,18 @@ impl Player {
         ensures { λ r. ⌜ r ≡ tickSum (viewOf self) dt fps ⌝ }
     {
         self.frame + dt * fps
+    }
+
+    // Row 8 of a playing tick: the sum, and the frame that it would leave, are finite. An idle tick has neither.
+    pub fn tick_moves(self, s: &[u8], dt: f32, fps: f32) -> bool
+        requires { ⌜ Selected (now s) self ⌝ }
+        ensures { λ r. ⌜ r ≡ tickMoves (now (s .entry)) (viewOf self) dt fps ⌝ }
+    {
+        if !self.ticks() {
+            return true;
+        }
+        let sum = self.tick_sum(dt, fps);
+        is_finite(sum) & is_finite(tick_frame(s, self.selection as usize, sum))
     }
 
     // A tick whose numbers are finite. Nothing moves unless something is selected and plays.

@@ -1,18 +1,16 @@
 -- The last-target rule as a reader expects it (document 01, "Channels"): a channel is overridden exactly when some target of the active animation
 -- addresses it; the value is the last such target's, in sheet order, and the texture exception applies to that one. First for a single reading,
 -- then for the whole. Assumes nothing.
-use Prim.Native.Nat.{ℕ, zero, suc, _<_, _≤_}
+use Prim.Native.Nat.{ℕ, _<_, _≤_}
 use mathlib.Core.List.{List}
-use mathlib.Core.Bool.{Bool, true, false, cond}
-use mathlib.Core.Path.{_≡_, refl, sym, subst, _∙_, ap}
-use mathlib.Core.Logic.{⊎-elim}
-use native.Mathlib.Nat.{eq-or-lt-of-le, le-of-suc-le-suc, not-suc-le-zero}
+use mathlib.Core.Bool.{Bool, true, false, cond, false≢true}
+use mathlib.Core.Path.{_≡_, refl, sym, _∙_, ap}
 use native.Mathlib.Omega.{arith}
-use borrow.Author.Tests.{ltb-false, le-ltb, eqb-true}
+use borrow.Author.Tests.{ltb-false, le-ltb}
 use lib.Dec.{ltb}
 use lib.Ieee.{Float}
 use lib.ListN.{getD}
-use Rattle.laws.specs.Last.{lastBelow, last-within, last-holds}
+use Rattle.laws.specs.Last.{last-nothing, last-at, last-past, last-within, last-holds}
 use Rattle.laws.specs.Swept.{isAt}
 use Rattle.laws.specs.Table.{table-at}
 use Rattle.laws.specs.declared.Found.{Found}
@@ -54,47 +52,6 @@ pub record Overridden (s b : List ℕ) (fs vs ss : List Float) (a : ℕ) (x : Fl
   pub last : LastTarget s b a c target
   pub kept : TextureException s fs vs ss x target → ⊥
 
--- ---- the last number below n of which p holds
-
-found-none : (n : ℕ) (p : ℕ → Bool) → ((i : ℕ) → i < n → p i ≡ false) → lastBelow n p ≡ found.Nothing
-unfolding lastBelow
-found-none zero p h = refl
-found-none (suc n) p h = rw (h n (omega arith)) (found-none n p (λ i l. h i (omega arith)))
-
-found-last : (n : ℕ) (p : ℕ → Bool) (i : ℕ) → i < n → p i ≡ true → ((j : ℕ) → i < j → j < n → p j ≡ false) → lastBelow n p ≡ found.At i
-unfolding lastBelow
-found-last zero p i l e h = absurd (not-suc-le-zero l)
-found-last (suc n) p i l e h =
-    ⊎-elim
-    (λ (q : i ≡ n). rw (ap p (sym q) ∙ e, q))
-    (λ (k : i < n). rw (h n k (omega arith)) (found-last n p i k e (λ j m o. h j m (omega arith))))
-    (eq-or-lt-of-le (le-of-suc-le-suc l))
-
-differ : false ≡ true → ⊥
-differ e = let z : _≡_ {A = ℕ} 0 1 = cc in omega arith
-
--- what is found is j or a later number
-abbrev From : ℕ → Found → Type 0
-From j (found.At i) = j ≤ i
-From j found.Nothing = ⊥
-
-from-hit : (n : ℕ) (p : ℕ → Bool) (j : ℕ) → j < n → p j ≡ true → From j (lastBelow n p)
-unfolding lastBelow
-from-hit zero p j l e = absurd (not-suc-le-zero l)
-from-hit (suc n) p j l e = go (λ k. from-hit n p j k e) (p n) refl
-  where
-    go : (j < n → From j (lastBelow n p)) → (b : Bool) → p n ≡ b → From j (cond b (found.At n) (lastBelow n p))
-    go h true q = omega arith
-    go h false q = ⊎-elim (λ (k : j ≡ n). let z = sym (ap p k ∙ q) ∙ e in absurd (differ z)) h (eq-or-lt-of-le (le-of-suc-le-suc l))
-
--- so nothing past what is found holds, and where nothing is found nothing does
-past-none : (n : ℕ) (p : ℕ → Bool) {o : Found} → lastBelow n p ≡ o → (j : ℕ) → j < n → (From j o → ⊥) → p j ≡ false
-past-none n p e j l h = go (p j) refl
-  where
-    go : (b : Bool) → p j ≡ b → p j ≡ false
-    go true q = absurd (h (subst (From j) e (from-hit n p j l q)))
-    go false q = q
-
 -- ---- the search for the last target
 
 module _ (s b : List ℕ) (a c : ℕ) where
@@ -104,15 +61,15 @@ module _ (s b : List ℕ) (a c : ℕ) where
   -- it finds nothing exactly where no target addresses the channel, and t exactly where t is the last that does
   pub no-target-then : NoTarget s b a c → lastTarget s b a c ≡ found.Nothing
   unfolding lastTarget
-  no-target-then h = found-none (targetCount s) addressing (h .none)
+  no-target-then h = last-nothing (targetCount s) addressing (h .none)
 
   pub last-target-then : (t : ℕ) → LastTarget s b a c t → lastTarget s b a c ≡ found.At t
   unfolding lastTarget
-  last-target-then t h = found-last (targetCount s) addressing t (h .within) (h .addresses) (h .later)
+  last-target-then t h = last-at (targetCount s) addressing t (h .within) (h .addresses) (h .later)
 
   pub no-target-only : lastTarget s b a c ≡ found.Nothing → NoTarget s b a c
   unfolding lastTarget
-  no-target-only e = record { none = λ t l. past-none (targetCount s) addressing e t l (λ f. f) }
+  no-target-only e = record { none = λ t l. last-past (targetCount s) addressing e t l (λ f. f) }
 
   pub last-target-only : (t : ℕ) → lastTarget s b a c ≡ found.At t → LastTarget s b a c t
   unfolding lastTarget
@@ -120,7 +77,7 @@ module _ (s b : List ℕ) (a c : ℕ) where
       record {
         within = last-within (targetCount s) addressing t e;
         addresses = last-holds (targetCount s) addressing t e;
-        later = λ u l m. past-none (targetCount s) addressing e u m (λ f. omega arith);
+        later = λ u l m. last-past (targetCount s) addressing e u m (λ f. omega arith);
       }
 
   -- one of the two is so: no target addresses the channel, or there is a last one
@@ -147,7 +104,7 @@ other-addresses b reached.Nothing raw layer = refl
 -- so the family of a target that addresses a channel is one of the eight
 pub addressing-family : (s b : List ℕ) (a c t : ℕ) → isAt (targetChannel s b a t) c ≡ true → familyOf (targetRow s t .code) ≡ family.Other → ⊥
 unfolding targetChannel rowChannel
-addressing-family s b a c t h e = differ (rw (e, other-addresses) at h)
+addressing-family s b a c t h e = false≢true (rw (e, other-addresses) at h)
 
 -- what one of the eight reads is nothing only past the textures
 read-nothing : (f : Family) (v : Float) (n x : ℕ) → (f ≡ family.Other → ⊥) → readAs f v n x ≡ Nothing → (f ≡ family.TexturePattern) × (x ≤ n)
@@ -222,10 +179,10 @@ module _ (s b : List ℕ) (fs vs ss : List Float) (a : ℕ) (x : Float) (c : ℕ
     where
       go : (r : Reading) → read ≡ r → read ≡ Nothing
       go Nothing e = e
-      go (Number v) e = absurd (h (overridden-only (λ q. differ cc)))
-      go (Shown v) e = absurd (h (overridden-only (λ q. differ cc)))
-      go (Row k) e = absurd (h (overridden-only (λ q. differ cc)))
-      go (Level l) e = absurd (h (overridden-only (λ q. differ cc)))
+      go (Number v) e = absurd (h (overridden-only (λ q. false≢true cc)))
+      go (Shown v) e = absurd (h (overridden-only (λ q. false≢true cc)))
+      go (Row k) e = absurd (h (overridden-only (λ q. false≢true cc)))
+      go (Level l) e = absurd (h (overridden-only (λ q. false≢true cc)))
 
 -- ---- the whole reading
 

@@ -1,21 +1,30 @@
--- What an outward call answers of its refusal, and what it leaves of all that was lent to it, by the definitions that the contracts cite.
--- Definitions only.
+-- What an outward call answers of its refusal, what else it answers where it is declined, and what it leaves of all that was lent to it, by the
+-- definitions that the contracts cite. Definitions only.
 use Prim.Native.Nat.{ℕ}
 use mathlib.Core.Path.{_≡_}
 use mathlib.Core.List.{List, [], _∷_}
+use lib.ListN.{length}
 use lib.Ieee.{Float}
-use Rattle.geometry.specs.Calls.{uvsOf, placedOf, movedOf, turnedOf}
+use Rattle.geometry.specs.Calls.{noCorners, noPoint, uvsOf, placedOf, movedOf, turnedOf}
+use Rattle.reading.specs.declared.Reading.the-variants.{Nothing}
 use Rattle.player.specs.declared.Player.{Player}
+use Rattle.player.specs.declared.Tick.the-variants.{Idle}
+use Rattle.player.specs.Player.{freshPlayer}
 use Rattle.player.specs.Keys.{Keys}
 use Rattle.menu.specs.Calls.{loadedOf, nextNameOf}
-use Rattle.menu_c.specs.Naming.{nextNameInto, textureNameInto}
+use Rattle.menu.specs.Readings.{noPane, noLayer}
+use Rattle.menu_c.specs.Naming.{nameBytes, nextNameInto, textureNameInto}
 use Rattle.machine.specs.Asks.{Ask, paneChannel, materialChannel, all, pane, layer, texture, cascade, Told, one, tables, resolvedPane, resolvedLayer, name, cascaded}
 use Rattle.machine.specs.Calls.{Call, play, pose, tick, edit, undo, redo, ask, Answer, number, ticked, told, State, stepP}
 use Rattle.refusals.specs.Outward.{Outward, made, load, nextName, nextNameOut, textureNameOut, uvs, corners, translate, rotatePoint}
 
 -- ---- the number
 
--- what an answer says of the refusal n. A resolved texture name has no number: where the call is declined it is empty.
+-- A name that is handed out as a part of the sheet or of the book has no number: it is empty where the call is declined, and else a field of 24 bytes.
+abbrev pub NameSays : List ℕ → ℕ → Type 0
+NameSays k n = ((n ≡ 0 → ⊥) → k ≡ []) × (n ≡ 0 → length k ≡ nameBytes)
+
+-- what an answer says of the refusal n
 abbrev pub Says : Answer → ℕ → Type 0
 Says (number m) n = m ≡ n
 Says (ticked m a k) n = m ≡ n
@@ -24,18 +33,43 @@ Says (told (tables r)) n = r .refusal ≡ n
 Says (told (resolvedPane r)) n = r .refusal ≡ n
 Says (told (resolvedLayer r)) n = r .refusal ≡ n
 Says (told (cascaded r)) n = r .refusal ≡ n
-Says (told (name k)) n = (n ≡ 0 → ⊥) → k ≡ []
+Says (told (name k)) n = NameSays k n
 
 abbrev pub Answers : List ℕ → Outward → ℕ → Type 0
 Answers s (made c t) n = Says (stepP s c t .1) n
 Answers s (load ks) n = loadedOf s ks .refusal ≡ n
-Answers s (nextName a) n = (n ≡ 0 → ⊥) → nextNameOf s a ≡ []
+Answers s (nextName a) n = NameSays (nextNameOf s a) n
 Answers s (nextNameOut a o) n = nextNameInto s a o .refusal ≡ n
 Answers s (textureNameOut b m slot t o) n = textureNameInto s b (t .player) (t .keys) m slot o .refusal ≡ n
 Answers s (uvs ls ss o) n = uvsOf ls ss o .refusal ≡ n
 Answers s (corners c size ox oy r) n = placedOf c size ox oy r .refusal ≡ n
 Answers s (translate k d) n = movedOf k d .refusal ≡ n
 Answers s (rotatePoint p c r) n = turnedOf p c r .refusal ≡ n
+
+-- ---- what else is answered where a call is declined: "numbers alone come back"
+
+-- a tick that met nothing and names nothing, a reading of nothing, +0 throughout, an empty name
+abbrev pub Alone : Answer → Type 0
+Alone (number m) = Unit {0}
+Alone (ticked m a k) = (a ≡ Idle) × (k ≡ [])
+Alone (told (one r)) = r .reading ≡ Nothing
+Alone (told (tables r)) = Unit {0}
+Alone (told (resolvedPane r)) = r ≡ noPane (r .refusal)
+Alone (told (resolvedLayer r)) = r ≡ noLayer (r .refusal)
+Alone (told (cascaded r)) = Unit {0}
+Alone (told (name k)) = k ≡ []
+
+-- a load gives a fresh player: there is none before it that could come back
+abbrev pub AnswersAlone : List ℕ → Outward → Type 0
+AnswersAlone s (made c t) = Alone (stepP s c t .1)
+AnswersAlone s (load ks) = loadedOf s ks .player ≡ freshPlayer
+AnswersAlone s (nextName a) = nextNameOf s a ≡ []
+AnswersAlone s (nextNameOut a o) = Unit {0}
+AnswersAlone s (textureNameOut b m slot t o) = Unit {0}
+AnswersAlone s (uvs ls ss o) = Unit {0}
+AnswersAlone s (corners c size ox oy r) = placedOf c size ox oy r .corners ≡ noCorners
+AnswersAlone s (translate k d) = movedOf k d .corners ≡ noCorners
+AnswersAlone s (rotatePoint p c r) = turnedOf p c r .point ≡ noPoint
 
 -- ---- what was lent
 

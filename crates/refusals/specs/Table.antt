@@ -1,13 +1,16 @@
--- Document 01's table "What a call declines", call by call: the list of rows that the call's contract cites. Definitions only.
+-- Document 01's table "What a call declines", call by call: the list of rows that the call's contract cites, and the numbers that the list has.
+-- Definitions only.
 use Prim.Native.Nat.{ℕ}
-use mathlib.Core.List.{List}
+use mathlib.Core.List.{List, [], _∷_}
 use lib.ListN.{length}
 use Rattle.laws.specs.Rows.{Row, declines}
 use Rattle.keys.specs.Load.{loadTable}
 use Rattle.geometry.specs.Declined.{uvsTable, cornersTable, translateTable, rotateTable}
+use Rattle.player.specs.declared.edit.Request.{Request}
+use Rattle.player.specs.declared.edit.Request.the-variants as request
 use Rattle.menu.specs.Rows.{playTable, poseTable, tickTable, editTable, undoTable, redoTable, nextNameTable}
 use Rattle.menu_c.specs.Naming.{nextNameOutTable, textureNameOutTable}
-use Rattle.machine.specs.Asks.{askTable}
+use Rattle.machine.specs.Asks.{Ask, paneChannel, materialChannel, all, pane, layer, texture, cascade, askTable}
 use Rattle.machine.specs.Calls.{Call, play, pose, tick, edit, undo, redo, ask, State}
 use Rattle.refusals.specs.Outward.{Outward, made, load, nextName, nextNameOut, textureNameOut, uvs, corners, translate, rotatePoint}
 
@@ -31,6 +34,41 @@ tableOf s (uvs ls ss o) = uvsTable ls ss (length o)
 tableOf s (corners c size ox oy r) = cornersTable c size ox oy r
 tableOf s (translate k d) = translateTable k d
 tableOf s (rotatePoint p c r) = rotateTable p c r
+
+-- The numbers of a call's rows, in their order: "Loading takes sheet and key arrays; play, pose, tick take sheet and player; edits, undo, redo also
+-- keys; readings also keys and book", and behind what they take their own. A number stands as often as its row has tests of its own.
+abbrev pub editNumbers : Request → List ℕ
+editNumbers (request.Key x v) = 1 ∷ 3 ∷ 4 ∷ 5 ∷ 6 ∷ 7 ∷ 8 ∷ 9 ∷ []
+editNumbers (request.Slope m) = 1 ∷ 3 ∷ 4 ∷ 5 ∷ 6 ∷ 7 ∷ 8 ∷ 10 ∷ []
+
+abbrev pub askNumbers : Ask → List ℕ
+askNumbers (paneChannel i c) = 1 ∷ 2 ∷ 3 ∷ 4 ∷ 5 ∷ 7 ∷ []
+askNumbers (materialChannel m c) = 1 ∷ 2 ∷ 3 ∷ 4 ∷ 5 ∷ 7 ∷ []
+askNumbers (all marks numbers) = 1 ∷ 2 ∷ 3 ∷ 4 ∷ 5 ∷ 13 ∷ []
+askNumbers (pane i) = 1 ∷ 2 ∷ 3 ∷ 4 ∷ 5 ∷ 7 ∷ []
+askNumbers (layer m k) = 1 ∷ 2 ∷ 3 ∷ 4 ∷ 5 ∷ 7 ∷ []
+askNumbers (texture m k) = 1 ∷ 2 ∷ 3 ∷ 4 ∷ 5 ∷ 7 ∷ []
+askNumbers (cascade visible alpha influence) = 1 ∷ 2 ∷ 3 ∷ 4 ∷ 5 ∷ 13 ∷ []
+
+abbrev pub callNumbers : Call → List ℕ
+callNumbers (play a) = 1 ∷ 5 ∷ 6 ∷ []
+callNumbers (pose a x) = 1 ∷ 5 ∷ 8 ∷ []
+callNumbers (tick dt fps) = 1 ∷ 5 ∷ 8 ∷ 8 ∷ []
+callNumbers (edit track key r) = editNumbers r
+callNumbers undo = 1 ∷ 3 ∷ 4 ∷ 5 ∷ 5 ∷ 11 ∷ []
+callNumbers redo = 1 ∷ 3 ∷ 4 ∷ 5 ∷ 5 ∷ 11 ∷ []
+callNumbers (ask b q) = askNumbers q
+
+abbrev pub numbersOf : Outward → List ℕ
+numbersOf (made c t) = callNumbers c
+numbersOf (load ks) = 1 ∷ 3 ∷ 4 ∷ []
+numbersOf (nextName a) = 1 ∷ 6 ∷ []
+numbersOf (nextNameOut a o) = 1 ∷ 6 ∷ 13 ∷ []
+numbersOf (textureNameOut b m slot t o) = 1 ∷ 2 ∷ 3 ∷ 4 ∷ 5 ∷ 7 ∷ 13 ∷ []
+numbersOf (uvs ls ss o) = 8 ∷ 8 ∷ 8 ∷ 8 ∷ 12 ∷ 13 ∷ []
+numbersOf (corners c size ox oy r) = 7 ∷ 7 ∷ 8 ∷ 8 ∷ 8 ∷ 12 ∷ 12 ∷ 12 ∷ []
+numbersOf (translate k d) = 8 ∷ 8 ∷ []
+numbersOf (rotatePoint p c r) = 8 ∷ 8 ∷ 8 ∷ 12 ∷ 12 ∷ 12 ∷ []
 
 -- the number that a call declines with, 0 for none
 abbrev pub refusalOf : List ℕ → Outward → ℕ

@@ -3,3 +3,4 @@ pub mod Resolve
 pub mod Own
 pub mod Cascade
 pub mod Tables
+pub mod Textures

@@ -6,6 +6,7 @@ use reading::read_channel;
 ghost use mathlib.Core.Path.{_≡_};
 ghost use Prim.Native.Nat.{ℕ, _<_};
 ghost use Rattle.book.specs.Sizes.{materialCount};
+ghost use Rattle.channel.specs.Channel.{materialLayers};
 ghost use Rattle.reading.specs.Ready.{Ready};
 ghost use Rattle.resolve.specs.Resolve.{rowIn, textureOf};
 
@@ -31,7 +32,7 @@ pub fn texture_name<'a>(
     m: usize,
     slot: usize,
 ) -> &'a [u8]
-    requires { ⌜ Ready (now s) (now b) (now frames) (now values) (now slopes) × ((m < materialCount (now b)) × (slot < 3)) ⌝ }
+    requires { ⌜ Ready (now s) (now b) (now frames) (now values) (now slopes) × ((m < materialCount (now b)) × (slot < materialLayers)) ⌝ }
     ensures { λ r. ⌜ now r ≡ textureOf (now (s .entry)) (now (b .entry)) (now (frames .entry)) (now (values .entry)) (now (slopes .entry)) active m slot ⌝ }
 {
     let k = channel::slot_channel(slot as u16) as usize;

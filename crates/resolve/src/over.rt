@@ -9,7 +9,7 @@ use reading::read_channel;
 ghost use mathlib.Core.Path.{_≡_};
 ghost use Prim.Native.Nat.{ℕ, _+_, _*_, _<_};
 ghost use Rattle.book.specs.Sizes.{paneCount, materialCount};
-ghost use Rattle.channel.specs.Channel.{paneChannels, materialChannels};
+ghost use Rattle.channel.specs.Channel.{paneChannels, materialChannels, materialLayers};
 ghost use Rattle.reading.specs.Ready.{Ready};
 ghost use Rattle.resolve.specs.Resolve.{orNumber, orShown, paneNumber, materialNumber, paneVector2, paneVector3, layerVector, transformOf, visibleOf, alphaOf, srtOf};
 
@@ -239,7 +239,7 @@ pub fn resolve_srt(
     m: usize,
     layer: usize,
 ) -> Srt
-    requires { ⌜ Ready (now s) (now b) (now frames) (now values) (now slopes) × ((m < materialCount (now b)) × (layer < 3)) ⌝ }
+    requires { ⌜ Ready (now s) (now b) (now frames) (now values) (now slopes) × ((m < materialCount (now b)) × (layer < materialLayers)) ⌝ }
     ensures { λ r. ⌜ r ≡ srtOf (now (s .entry)) (now (b .entry)) (now (frames .entry)) (now (values .entry)) (now (slopes .entry)) active m layer ⌝ }
 {
     let base = book::material_srt(b, m, layer);

@@ -1,5 +1,5 @@
 -- Each return is at its row.
-use Rattle.laws.specs.Rows.{rows}
+use Rattle.laws.specs.Rows.{row-laws}
 use Rattle.geometry.specs.Declined.{rotateTable}
 use borrow.Author.Needs.{needs}
 use Rattle.geometry.proofs.checks.rotate_refusal.Statement.{statement}
@@ -10,21 +10,21 @@ is-finite2-requires c κs = search needs
 
 returns : tie.Need-returns
 unfolding rotateTable
-returns c = search rows
+returns c = search row-laws
 
 is-finite2-requires-2 : tie.Need-is-finite2-requires-2
 is-finite2-requires-2 c κs = search needs
 
 returns-2 : tie.Need-returns-2
 unfolding rotateTable
-returns-2 c = search rows
+returns-2 c = search row-laws
 
 rotation-refusal-requires : tie.Need-rotation-refusal-requires
 rotation-refusal-requires c κs = search needs
 
 returns-3 : tie.Need-returns-3
 unfolding rotateTable
-returns-3 c = search rows
+returns-3 c = search row-laws
 
 pub rotate-refusal-spec : {M : Type 1} → statement M
 rotate-refusal-spec =

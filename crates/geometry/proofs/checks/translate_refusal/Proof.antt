@@ -1,5 +1,5 @@
 -- Each return is at its row.
-use Rattle.laws.specs.Rows.{rows}
+use Rattle.laws.specs.Rows.{row-laws}
 use Rattle.geometry.specs.Declined.{translateTable}
 use borrow.Author.Needs.{needs}
 use Rattle.geometry.proofs.checks.translate_refusal.Statement.{statement}
@@ -10,18 +10,18 @@ is-finite4-requires c κs = search needs
 
 returns : tie.Need-returns
 unfolding translateTable
-returns c = search rows
+returns c = search row-laws
 
 is-finite2-requires : tie.Need-is-finite2-requires
 is-finite2-requires c κs = search needs
 
 returns-2 : tie.Need-returns-2
 unfolding translateTable
-returns-2 c = search rows
+returns-2 c = search row-laws
 
 returns-3 : tie.Need-returns-3
 unfolding translateTable
-returns-3 c = search rows
+returns-3 c = search row-laws
 
 pub translate-refusal-spec : {M : Type 1} → statement M
 translate-refusal-spec =

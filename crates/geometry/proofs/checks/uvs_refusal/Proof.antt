@@ -1,5 +1,5 @@
 -- Each return is at its row.
-use Rattle.laws.specs.Rows.{rows}
+use Rattle.laws.specs.Rows.{row-laws}
 use Rattle.geometry.specs.Declined.{uvsTable}
 use borrow.Author.Tests.{eq-eqb, ne-eqb}
 use borrow.Author.Needs.{needs}
@@ -8,40 +8,40 @@ use Rattle.geometry.proofs.checks.uvs_refusal.Tie as tie
 
 returns : tie.Need-returns
 unfolding uvsTable
-returns c = search (rows, eq-eqb, ne-eqb) depth 9
+returns c = search (row-laws, eq-eqb, ne-eqb) depth 9
 
 returns-2 : tie.Need-returns-2
 unfolding uvsTable
-returns-2 c = search (rows, eq-eqb, ne-eqb) depth 9
+returns-2 c = search (row-laws, eq-eqb, ne-eqb) depth 9
 
 all-finite-requires : tie.Need-all-finite-requires
 all-finite-requires c κs = search needs
 
 returns-3 : tie.Need-returns-3
 unfolding uvsTable
-returns-3 c = search (rows, eq-eqb, ne-eqb) depth 9
+returns-3 c = search (row-laws, eq-eqb, ne-eqb) depth 9
 
 all-finite-requires-2 : tie.Need-all-finite-requires-2
 all-finite-requires-2 c κs = search needs
 
 returns-4 : tie.Need-returns-4
 unfolding uvsTable
-returns-4 c = search (rows, eq-eqb, ne-eqb) depth 9
+returns-4 c = search (row-laws, eq-eqb, ne-eqb) depth 9
 
 angles-pass-requires : tie.Need-angles-pass-requires
 angles-pass-requires c κs = search needs
 
 returns-5 : tie.Need-returns-5
 unfolding uvsTable
-returns-5 c = search (rows, eq-eqb) depth 9
+returns-5 c = search (row-laws, eq-eqb) depth 9
 
 returns-6 : tie.Need-returns-6
 unfolding uvsTable
-returns-6 c = search (rows, eq-eqb, ne-eqb) depth 9
+returns-6 c = search (row-laws, eq-eqb, ne-eqb) depth 9
 
 returns-7 : tie.Need-returns-7
 unfolding uvsTable
-returns-7 c = search (rows, eq-eqb) depth 9
+returns-7 c = search (row-laws, eq-eqb) depth 9
 
 pub uvs-refusal-spec : {M : Type 1} → statement M
 uvs-refusal-spec =

@@ -1,8 +1,6 @@
-use native.Mathlib.Omega.{arith}
-use Rattle.laws.specs.Rows.{rows}
+use Rattle.laws.specs.Rows.{row-laws}
 use Rattle.laws.specs.Tests.{yes}
 use Rattle.sheet.specs.Checked.{checked}
-use Rattle.menu.proofs.Checks.{lengths-at}
 use borrow.Author.Needs.{needs}
 use Rattle.menu.proofs.check.check_keys.Statement.{statement}
 use Rattle.menu.proofs.check.check_keys.Tie as tie
@@ -11,35 +9,13 @@ sheet-ok-requires : tie.Need-sheet-ok-requires
 sheet-ok-requires c κs = search needs
 
 returns : tie.Need-returns
-returns c = search (rows, lengths-at)
+returns c = search row-laws
 
-key-count-requires : tie.Need-key-count-requires
-key-count-requires c κs = let w = checked _ (yes (c .before .sheet-ok .ensures) (c .if1 .left)) in omega arith
-
-lengths-ok-requires : tie.Need-lengths-ok-requires
-lengths-ok-requires c κs = search needs
+lent-refusal-requires : tie.Need-lent-refusal-requires
+lent-refusal-requires c κs = search (checked, yes)
 
 returns-2 : tie.Need-returns-2
-returns-2 c = search (rows, lengths-at)
-
-keys-ok-requires : tie.Need-keys-ok-requires
-keys-ok-requires c κs = search needs
-
-returns-3 : tie.Need-returns-3
-returns-3 c = search (rows, lengths-at)
-
-returns-4 : tie.Need-returns-4
-returns-4 c = search (rows, lengths-at)
+returns-2 c = search row-laws
 
 pub check-keys-spec : {M : Type 1} → statement M
-check-keys-spec =
-    tie.close
-    (tie.spec
-    sheet-ok-requires
-    returns
-    key-count-requires
-    lengths-ok-requires
-    returns-2
-    keys-ok-requires
-    returns-3
-    returns-4)
+check-keys-spec = tie.close (tie.spec sheet-ok-requires returns lent-refusal-requires returns-2)

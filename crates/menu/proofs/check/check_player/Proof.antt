@@ -1,4 +1,4 @@
-use Rattle.laws.specs.Rows.{rows}
+use Rattle.laws.specs.Rows.{row-laws}
 use Rattle.laws.specs.Tests.{yes}
 use Rattle.sheet.specs.Checked.{checked}
 use borrow.Author.Needs.{needs}
@@ -9,16 +9,16 @@ sheet-ok-requires : tie.Need-sheet-ok-requires
 sheet-ok-requires c κs = search needs
 
 returns : tie.Need-returns
-returns c = search rows
+returns c = search row-laws
 
 ok-requires : tie.Need-ok-requires
-ok-requires c κs = checked _ (yes (c .before .sheet-ok .ensures) (c .if1 .left))
+ok-requires c κs = search (checked, yes)
 
 returns-2 : tie.Need-returns-2
-returns-2 c = search rows
+returns-2 c = search row-laws
 
 returns-3 : tie.Need-returns-3
-returns-3 c = search rows
+returns-3 c = search row-laws
 
 pub check-player-spec : {M : Type 1} → statement M
 check-player-spec = tie.close (tie.spec sheet-ok-requires returns ok-requires returns-2 returns-3)

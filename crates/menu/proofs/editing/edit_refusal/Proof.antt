@@ -1,9 +1,8 @@
 use Rattle.menu.specs.Rows.{editTable}
 use Rattle.player.specs.Edit.{editRows}
-use Rattle.laws.specs.Rows.{stops, goes, passes, rows}
 use Rattle.laws.specs.Tests.{yes}
-use Rattle.menu.proofs.Checks.{state-ready}
-use Rattle.menu.proofs.Edits.{has-track, in-has, inside-frames, is-zero-none, not-none}
+use Rattle.menu.proofs.Checks.{state-ready, after-state}
+use Rattle.menu.proofs.Edits.{has-track, in-has, inside-frames, is-none, not-none, request-at}
 use borrow.Author.Needs.{needs}
 use Rattle.menu.proofs.editing.edit_refusal.Statement.{statement}
 use Rattle.menu.proofs.editing.edit_refusal.Tie as tie
@@ -12,29 +11,34 @@ check-state-requires : tie.Need-check-state-requires
 check-state-requires c κs = search needs
 
 returns : tie.Need-returns
-unfolding editTable
-returns c = stops _ _ (c .before .check-state .ensures) (c .if1 .taken)
+unfolding editTable editRows
+returns c = search after-state
 
 returns-2 : tie.Need-returns-2
 unfolding editTable editRows
-returns-2 c = goes _ _ tt (c .before .before .before .check-state .ensures) (c .before .before .if1 .left) (search (rows, is-zero-none, not-none))
+returns-2 c = search (after-state, is-none, not-none)
 
 key-in-requires : tie.Need-key-in-requires
-key-in-requires c κs = state-ready _ _ _ _ (c .before .before .before .check-state .ensures) (c .before .before .if1 .left) .sheet
+key-in-requires c κs = let a = c .before .before in state-ready _ _ _ _ _ _ (a .before .check-state .ensures) (a .if1 .left) .sheet
 
 returns-3 : tie.Need-returns-3
 unfolding editTable editRows
-returns-3 c = goes _ _ tt (c .before .before .before .before .before .check-state .ensures) (c .before .before .before .before .if1 .left) (search (rows, is-zero-none, not-none))
+returns-3 c = search (after-state, is-none, not-none)
 
 spot-of-requires : tie.Need-spot-of-requires
-spot-of-requires c κs = (state-ready _ _ _ _ (c .before .before .before .before .before .check-state .ensures) (c .before .before .before .before .if1 .left) .sheet, has-track _ _ _ (in-has _ _ _ _ (yes (c .before .key-in .ensures) (c .if3 .left))))
+spot-of-requires c κs =
+    let a = c .before .before .before .before in
+    (state-ready _ _ _ _ _ _ (a .before .check-state .ensures) (a .if1 .left) .sheet, has-track _ _ _ (in-has _ _ _ _ (yes (c .before .key-in .ensures) (c .if3 .left))))
 
 request-refusal-requires : tie.Need-request-refusal-requires
-request-refusal-requires c κs = let w = state-ready _ _ _ _ (c .before .before .before .before .before .before .check-state .ensures) (c .before .before .before .before .before .if1 .left) in rw (c .spot-of .ensures) (inside-frames _ _ (w .sheet) (w .frames) (in-has _ _ _ _ (yes (c .before .before .key-in .ensures) (c .before .if3 .left))))
+request-refusal-requires c κs =
+    let a = c .before .before .before .before .before in
+    let w = state-ready _ _ _ _ _ _ (a .before .check-state .ensures) (a .if1 .left) in
+    rw (c .spot-of .ensures) (inside-frames _ _ (w .sheet) (w .frames) (in-has _ _ _ _ (yes (c .before .before .key-in .ensures) (c .before .if3 .left))))
 
 returns-4 : tie.Need-returns-4
 unfolding editTable editRows
-returns-4 c = goes _ _ tt (c .before .before .before .before .before .before .before .check-state .ensures) (c .before .before .before .before .before .before .if1 .left) (passes 6 _ (not-none (c .before .before .before .before .if2 .left)) (passes 7 _ (yes (c .before .before .before .key-in .ensures) (c .before .before .if3 .left)) (rw (← c .before .spot-of .ensures) (c .request-refusal .ensures))))
+returns-4 c = search (after-state, not-none, request-at)
 
 pub edit-refusal-spec : {M : Type 1} → statement M
 edit-refusal-spec =

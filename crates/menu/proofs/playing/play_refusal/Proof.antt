@@ -1,7 +1,7 @@
 use native.Mathlib.Omega.{arith}
-use Rattle.laws.specs.Rows.{stops, goes, passes, fails, no-rows}
 use Rattle.menu.specs.Rows.{playTable, playRows}
-use Rattle.menu.proofs.Checks.{player-ready}
+use Rattle.menu.proofs.Checks.{player-ready, after-player}
+use Rattle.menu.proofs.Answers.{play-no, play-yes}
 use borrow.Author.Needs.{needs}
 use Rattle.menu.proofs.playing.play_refusal.Statement.{statement}
 use Rattle.menu.proofs.playing.play_refusal.Tie as tie
@@ -10,19 +10,19 @@ check-player-requires : tie.Need-check-player-requires
 check-player-requires c κs = search needs
 
 returns : tie.Need-returns
-unfolding playTable
-returns c = stops _ _ (c .before .check-player .ensures) (c .if1 .taken)
+unfolding playTable playRows
+returns c = search after-player
 
 animation-count-requires : tie.Need-animation-count-requires
 animation-count-requires c κs = let w = player-ready _ _ _ (c .before .check-player .ensures) (c .if1 .left) .sheet in omega arith
 
 returns-2 : tie.Need-returns-2
 unfolding playTable playRows
-returns-2 c = goes _ _ tt (c .before .before .before .check-player .ensures) (c .before .before .if1 .left) (passes 6 _ (rw (← c .before .animation-count .ensures) (c .if2 .taken)) no-rows)
+returns-2 c = search (after-player, play-no, play-yes)
 
 returns-3 : tie.Need-returns-3
 unfolding playTable playRows
-returns-3 c = goes _ _ tt (c .before .before .before .check-player .ensures) (c .before .before .if1 .left) (fails 6 _ (rw (← c .before .animation-count .ensures) (c .if2 .left)))
+returns-3 c = search (after-player, play-no, play-yes)
 
 pub play-refusal-spec : {M : Type 1} → statement M
 play-refusal-spec =

@@ -22,7 +22,7 @@ active-in-requires c κs = search needs
 
 read-all-requires : tie.Need-read-all-requires
 unfolding readAllTable
-read-all-requires c κs = (reading-ready _ _ _ _ _ (c .before .before .before .before .read-all-refusal .ensures) (c .before .before .before .if1 .left) .ready, tables-long _ _ _ _ _ _ _ _ _ (c .before .before .before .before .read-all-refusal .ensures) (c .before .before .before .if1 .left))
+read-all-requires c κs = (reading-ready _ _ _ _ _ _ _ (c .before .before .before .before .read-all-refusal .ensures) (c .before .before .before .if1 .left) .ready, tables-long _ _ _ _ _ _ _ _ _ (c .before .before .before .before .read-all-refusal .ensures) (c .before .before .before .if1 .left))
 
 same-length-3 : tie.Need-same-length-3
 same-length-3 c = search needs

@@ -1,6 +1,7 @@
+use borrow.Author.Tests.{not-true, not-false}
 use Rattle.menu.specs.Rows.{readAllTable, tablesRows}
-use Rattle.laws.specs.Rows.{stops, goes, passes, fails, no-rows}
-use Rattle.menu.proofs.Checks.{reading-ready}
+use Rattle.laws.specs.Rows.{passes, fails, no-rows}
+use Rattle.menu.proofs.Checks.{reading-ready, reading-goes, after-reading}
 use borrow.Author.Needs.{needs}
 use Rattle.menu.proofs.readings.read_all_refusal.Statement.{statement}
 use Rattle.menu.proofs.readings.read_all_refusal.Tie as tie
@@ -9,19 +10,19 @@ check-reading-requires : tie.Need-check-reading-requires
 check-reading-requires c κs = search needs
 
 returns : tie.Need-returns
-unfolding readAllTable
-returns c = stops _ _ (c .before .check-reading .ensures) (c .if1 .taken)
+unfolding readAllTable tablesRows
+returns c = search after-reading
 
 channel-count-requires : tie.Need-channel-count-requires
-channel-count-requires c κs = reading-ready _ _ _ _ _ (c .before .check-reading .ensures) (c .if1 .left) .ready .book
+channel-count-requires c κs = reading-ready _ _ _ _ _ _ _ (c .before .check-reading .ensures) (c .if1 .left) .ready .book
 
 returns-2 : tie.Need-returns-2
 unfolding readAllTable tablesRows
-returns-2 c = goes _ _ tt (c .before .before .before .check-reading .ensures) (c .before .before .if1 .left) (passes 13 _ (rw (← c .before .channel-count .ensures) (c .if2 .taken)) no-rows)
+returns-2 c = reading-goes _ _ _ _ _ _ _ (c .before .before .before .check-reading .ensures) (c .before .before .if1 .left) (fails 13 _ (rw (← c .before .channel-count .ensures) (not-true _ (c .if2 .taken))))
 
 returns-3 : tie.Need-returns-3
 unfolding readAllTable tablesRows
-returns-3 c = goes _ _ tt (c .before .before .before .check-reading .ensures) (c .before .before .if1 .left) (fails 13 _ (rw (← c .before .channel-count .ensures) (c .if2 .left)))
+returns-3 c = reading-goes _ _ _ _ _ _ _ (c .before .before .before .check-reading .ensures) (c .before .before .if1 .left) (passes 13 _ (rw (← c .before .channel-count .ensures) (not-false _ (c .if2 .left))) no-rows)
 
 pub read-all-refusal-spec : {M : Type 1} → statement M
 read-all-refusal-spec =

@@ -25,7 +25,7 @@ unfolding textureNameOf textureNameTable
 returns c = name-refused _ (stops _ _ (c .before .before .check-reading .ensures) (c .before .if1 .taken)) (c .before .if1 .taken)
 
 material-count-requires : tie.Need-material-count-requires
-material-count-requires c κs = (let w = reading-ready _ _ _ _ _ (c .before .check-reading .ensures) (c .if1 .left) .ready .book in omega arith)
+material-count-requires c κs = (let w = reading-ready _ _ _ _ _ _ _ (c .before .check-reading .ensures) (c .if1 .left) .ready .book in omega arith)
 
 sub-result-2 : tie.Need-sub-result-2
 sub-result-2 c = search needs
@@ -44,7 +44,7 @@ active-in-requires : tie.Need-active-in-requires
 active-in-requires c κs = search needs
 
 texture-name-requires : tie.Need-texture-name-requires
-texture-name-requires c κs = (reading-ready _ _ _ _ _ (c .before .before .before .before .check-reading .ensures) (c .before .before .before .if1 .left) .ready, both-below (c .before .before .before .before .before .before .before .before .before .before .args .material) _ (c .before .before .before .before .before .before .before .before .before .before .args .slot) 3 (in-yes (c .before .before .before .before .before .before .before .before .before .before .args .material) (c .before .before .before .before .before .before .before .before .before .before .args .slot) 3 (c .before .before .material-count .ensures) (c .before .if2 .left)))
+texture-name-requires c κs = (reading-ready _ _ _ _ _ _ _ (c .before .before .before .before .check-reading .ensures) (c .before .before .before .if1 .left) .ready, both-below (c .before .before .before .before .before .before .before .before .before .before .args .material) _ (c .before .before .before .before .before .before .before .before .before .before .args .slot) 3 (in-yes (c .before .before .before .before .before .before .before .before .before .before .args .material) (c .before .before .before .before .before .before .before .before .before .before .args .slot) 3 (c .before .before .material-count .ensures) (c .before .if2 .left)))
 
 returns-3 : tie.Need-returns-3
 unfolding textureNameOf textureNameTable layerRows

@@ -1,7 +1,6 @@
 use native.Mathlib.Omega.{arith}
-use Rattle.laws.specs.Rows.{stops, goes, passes, fails, no-rows}
 use Rattle.menu.specs.Rows.{readMaterialTable, materialChannelRows}
-use Rattle.menu.proofs.Checks.{reading-ready}
+use Rattle.menu.proofs.Checks.{reading-ready, after-reading}
 use Rattle.menu.specs.Readings.{readMaterialOf}
 use Rattle.menu.proofs.Answers.{one-refused, one-made, in-no, in-yes, both-below, material-within, seven}
 use borrow.Author.Needs.{needs}
@@ -12,29 +11,29 @@ check-reading-requires : tie.Need-check-reading-requires
 check-reading-requires c κs = search needs
 
 returns : tie.Need-returns
-unfolding readMaterialOf readMaterialTable
-returns c = one-refused (stops _ _ (c .before .check-reading .ensures) (c .if1 .taken)) _ (c .if1 .taken)
+unfolding readMaterialOf readMaterialTable materialChannelRows
+returns c = one-refused (search after-reading) _ (c .if1 .taken)
 
 material-count-requires : tie.Need-material-count-requires
-material-count-requires c κs = (let w = reading-ready _ _ _ _ _ (c .before .check-reading .ensures) (c .if1 .left) .ready .book in omega arith)
+material-count-requires c κs = (let w = reading-ready _ _ _ _ _ _ _ (c .before .check-reading .ensures) (c .if1 .left) .ready .book in omega arith)
 
 returns-2 : tie.Need-returns-2
 unfolding readMaterialOf readMaterialTable materialChannelRows
-returns-2 c = one-refused (goes _ _ tt (c .before .before .before .check-reading .ensures) (c .before .before .if1 .left) (fails 7 _ (in-no (c .before .before .before .before .before .before .before .before .before .args .material) (c .before .before .before .before .before .before .before .before .before .args .channel) 30 (c .before .material-count .ensures) (c .if2 .taken)))) _ seven
+returns-2 c = one-refused (search (after-reading, in-no, in-yes)) _ seven
 
 -- the row and the channel are the book's
 of-material-requires : tie.Need-of-material-requires
-of-material-requires c κs = (reading-ready _ _ _ _ _ (c .before .before .before .check-reading .ensures) (c .before .before .if1 .left) .ready .book, (both-below (c .before .before .before .before .before .before .before .before .before .args .material) _ (c .before .before .before .before .before .before .before .before .before .args .channel) 30 (in-yes (c .before .before .before .before .before .before .before .before .before .args .material) (c .before .before .before .before .before .before .before .before .before .args .channel) 30 (c .before .material-count .ensures) (c .if2 .left))))
+of-material-requires c κs = (reading-ready _ _ _ _ _ _ _ (c .before .before .before .check-reading .ensures) (c .before .before .if1 .left) .ready .book, (both-below (c .before .before .before .before .before .before .before .before .before .args .material) _ (c .before .before .before .before .before .before .before .before .before .args .channel) 30 (in-yes (c .before .before .before .before .before .before .before .before .before .args .material) (c .before .before .before .before .before .before .before .before .before .args .channel) 30 (c .before .material-count .ensures) (c .if2 .left))))
 
 active-in-requires : tie.Need-active-in-requires
 active-in-requires c κs = search needs
 
 read-channel-requires : tie.Need-read-channel-requires
-read-channel-requires c κs = (reading-ready _ _ _ _ _ (c .before .before .before .before .before .check-reading .ensures) (c .before .before .before .before .if1 .left) .ready, material-within _ _ _ _ (c .before .of-material .ensures) (both-below (c .before .before .before .before .before .before .before .before .before .before .before .args .material) _ (c .before .before .before .before .before .before .before .before .before .before .before .args .channel) 30 (in-yes (c .before .before .before .before .before .before .before .before .before .before .before .args .material) (c .before .before .before .before .before .before .before .before .before .before .before .args .channel) 30 (c .before .before .before .material-count .ensures) (c .before .before .if2 .left))))
+read-channel-requires c κs = (reading-ready _ _ _ _ _ _ _ (c .before .before .before .before .before .check-reading .ensures) (c .before .before .before .before .if1 .left) .ready, material-within _ _ _ _ (c .before .of-material .ensures) (both-below (c .before .before .before .before .before .before .before .before .before .before .before .args .material) _ (c .before .before .before .before .before .before .before .before .before .before .before .args .channel) 30 (in-yes (c .before .before .before .before .before .before .before .before .before .before .before .args .material) (c .before .before .before .before .before .before .before .before .before .before .before .args .channel) 30 (c .before .before .before .material-count .ensures) (c .before .before .if2 .left))))
 
 returns-3 : tie.Need-returns-3
 unfolding readMaterialOf readMaterialTable materialChannelRows
-returns-3 c = one-made (goes _ _ tt (c .before .before .before .before .before .before .check-reading .ensures) (c .before .before .before .before .before .if1 .left) (passes 7 _ (in-yes (c .before .before .before .before .before .before .before .before .before .before .before .before .args .material) (c .before .before .before .before .before .before .before .before .before .before .before .before .args .channel) 30 (c .before .before .before .before .material-count .ensures) (c .before .before .before .if2 .left)) no-rows)) (rw (← c .before .active-in .ensures, ← c .before .before .of-material .ensures) (c .read-channel .ensures))
+returns-3 c = one-made (search (after-reading, in-no, in-yes)) (rw (← c .before .active-in .ensures, ← c .before .before .of-material .ensures) (c .read-channel .ensures))
 
 pub read-material-spec : {M : Type 1} → statement M
 read-material-spec =

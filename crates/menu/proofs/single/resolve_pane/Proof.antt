@@ -1,8 +1,7 @@
 use mathlib.Core.Path.{_∙_}
 use native.Mathlib.Omega.{arith}
-use Rattle.laws.specs.Rows.{stops, goes, passes, fails, no-rows}
 use Rattle.menu.specs.Rows.{resolvePaneTable, paneRows}
-use Rattle.menu.proofs.Checks.{reading-ready}
+use Rattle.menu.proofs.Checks.{reading-ready, after-reading}
 use Rattle.menu.specs.Readings.{resolvePaneOf}
 use Rattle.menu.proofs.Answers.{pane-refused, pane-made, one-no, one-yes, one-below, seven}
 use borrow.Author.Needs.{needs}
@@ -16,34 +15,34 @@ no-pane-requires : tie.Need-no-pane-requires
 no-pane-requires c κs = search needs
 
 returns : tie.Need-returns
-unfolding resolvePaneOf resolvePaneTable
-returns c = c .no-pane .ensures ∙ pane-refused (stops _ _ (c .before .before .check-reading .ensures) (c .before .if1 .taken)) _ _ _ (c .before .if1 .taken)
+unfolding resolvePaneOf resolvePaneTable paneRows
+returns c = c .no-pane .ensures ∙ pane-refused (search after-reading) _ _ _ (c .before .if1 .taken)
 
 pane-count-requires : tie.Need-pane-count-requires
-pane-count-requires c κs = (let w = reading-ready _ _ _ _ _ (c .before .check-reading .ensures) (c .if1 .left) .ready .book in omega arith)
+pane-count-requires c κs = (let w = reading-ready _ _ _ _ _ _ _ (c .before .check-reading .ensures) (c .if1 .left) .ready .book in omega arith)
 
 no-pane-requires-2 : tie.Need-no-pane-requires-2
 no-pane-requires-2 c κs = search needs
 
 returns-2 : tie.Need-returns-2
 unfolding resolvePaneOf resolvePaneTable paneRows
-returns-2 c = c .no-pane2 .ensures ∙ pane-refused (goes _ _ tt (c .before .before .before .before .check-reading .ensures) (c .before .before .before .if1 .left) (fails 7 _ (one-no (c .before .before .before .before .before .before .before .before .before .before .args .pane) (c .before .before .pane-count .ensures) (c .before .if2 .taken)))) _ _ _ seven
+returns-2 c = c .no-pane2 .ensures ∙ pane-refused (search (after-reading, one-no, one-yes)) _ _ _ seven
 
 active-in-requires : tie.Need-active-in-requires
 active-in-requires c κs = search needs
 
 resolve-visible-requires : tie.Need-resolve-visible-requires
-resolve-visible-requires c κs = (reading-ready _ _ _ _ _ (c .before .before .before .before .check-reading .ensures) (c .before .before .before .if1 .left) .ready, one-below (c .before .before .before .before .before .before .before .before .before .before .args .pane) (c .before .before .pane-count .ensures) (c .before .if2 .left))
+resolve-visible-requires c κs = (reading-ready _ _ _ _ _ _ _ (c .before .before .before .before .check-reading .ensures) (c .before .before .before .if1 .left) .ready, one-below (c .before .before .before .before .before .before .before .before .before .before .args .pane) (c .before .before .pane-count .ensures) (c .before .if2 .left))
 
 resolve-alpha-requires : tie.Need-resolve-alpha-requires
-resolve-alpha-requires c κs = (reading-ready _ _ _ _ _ (c .before .before .before .before .before .check-reading .ensures) (c .before .before .before .before .if1 .left) .ready, one-below (c .before .before .before .before .before .before .before .before .before .before .before .args .pane) (c .before .before .before .pane-count .ensures) (c .before .before .if2 .left))
+resolve-alpha-requires c κs = (reading-ready _ _ _ _ _ _ _ (c .before .before .before .before .before .check-reading .ensures) (c .before .before .before .before .if1 .left) .ready, one-below (c .before .before .before .before .before .before .before .before .before .before .before .args .pane) (c .before .before .before .pane-count .ensures) (c .before .before .if2 .left))
 
 resolve-transform-requires : tie.Need-resolve-transform-requires
-resolve-transform-requires c κs = (reading-ready _ _ _ _ _ (c .before .before .before .before .before .before .check-reading .ensures) (c .before .before .before .before .before .if1 .left) .ready, one-below (c .before .before .before .before .before .before .before .before .before .before .before .before .args .pane) (c .before .before .before .before .pane-count .ensures) (c .before .before .before .if2 .left))
+resolve-transform-requires c κs = (reading-ready _ _ _ _ _ _ _ (c .before .before .before .before .before .before .check-reading .ensures) (c .before .before .before .before .before .if1 .left) .ready, one-below (c .before .before .before .before .before .before .before .before .before .before .before .before .args .pane) (c .before .before .before .before .pane-count .ensures) (c .before .before .before .if2 .left))
 
 returns-3 : tie.Need-returns-3
 unfolding resolvePaneOf resolvePaneTable paneRows
-returns-3 c = pane-made (goes _ _ tt (c .before .before .before .before .before .before .before .check-reading .ensures) (c .before .before .before .before .before .before .if1 .left) (passes 7 _ (one-yes (c .before .before .before .before .before .before .before .before .before .before .before .before .before .args .pane) (c .before .before .before .before .before .pane-count .ensures) (c .before .before .before .before .if2 .left)) no-rows)) (rw (← c .before .before .before .active-in .ensures) (c .resolve-transform .ensures)) (rw (← c .before .before .before .active-in .ensures) (c .before .before .resolve-visible .ensures)) (rw (← c .before .before .before .active-in .ensures) (c .before .resolve-alpha .ensures))
+returns-3 c = pane-made (search (after-reading, one-no, one-yes)) (rw (← c .before .before .before .active-in .ensures) (c .resolve-transform .ensures)) (rw (← c .before .before .before .active-in .ensures) (c .before .before .resolve-visible .ensures)) (rw (← c .before .before .before .active-in .ensures) (c .before .resolve-alpha .ensures))
 
 pub resolve-pane-spec : {M : Type 1} → statement M
 resolve-pane-spec =

@@ -1,8 +1,7 @@
 use mathlib.Core.Path.{_∙_}
 use native.Mathlib.Omega.{arith}
-use Rattle.laws.specs.Rows.{stops, goes, passes, fails, no-rows}
 use Rattle.menu.specs.Rows.{resolveSrtTable, layerRows}
-use Rattle.menu.proofs.Checks.{reading-ready}
+use Rattle.menu.proofs.Checks.{reading-ready, after-reading}
 use Rattle.menu.specs.Readings.{resolveSrtOf}
 use Rattle.menu.proofs.Answers.{layer-refused, layer-made, in-no, in-yes, both-below, seven}
 use borrow.Author.Needs.{needs}
@@ -16,28 +15,28 @@ no-srt-requires : tie.Need-no-srt-requires
 no-srt-requires c κs = search needs
 
 returns : tie.Need-returns
-unfolding resolveSrtOf resolveSrtTable
-returns c = c .no-srt .ensures ∙ layer-refused (stops _ _ (c .before .before .check-reading .ensures) (c .before .if1 .taken)) _ (c .before .if1 .taken)
+unfolding resolveSrtOf resolveSrtTable layerRows
+returns c = c .no-srt .ensures ∙ layer-refused (search after-reading) _ (c .before .if1 .taken)
 
 material-count-requires : tie.Need-material-count-requires
-material-count-requires c κs = (let w = reading-ready _ _ _ _ _ (c .before .check-reading .ensures) (c .if1 .left) .ready .book in omega arith)
+material-count-requires c κs = (let w = reading-ready _ _ _ _ _ _ _ (c .before .check-reading .ensures) (c .if1 .left) .ready .book in omega arith)
 
 no-srt-requires-2 : tie.Need-no-srt-requires-2
 no-srt-requires-2 c κs = search needs
 
 returns-2 : tie.Need-returns-2
 unfolding resolveSrtOf resolveSrtTable layerRows
-returns-2 c = c .no-srt2 .ensures ∙ layer-refused (goes _ _ tt (c .before .before .before .before .check-reading .ensures) (c .before .before .before .if1 .left) (fails 7 _ (in-no (c .before .before .before .before .before .before .before .before .before .before .args .material) (c .before .before .before .before .before .before .before .before .before .before .args .layer) 3 (c .before .before .material-count .ensures) (c .before .if2 .taken)))) _ seven
+returns-2 c = c .no-srt2 .ensures ∙ layer-refused (search (after-reading, in-no, in-yes)) _ seven
 
 active-in-requires : tie.Need-active-in-requires
 active-in-requires c κs = search needs
 
 resolve-srt-requires : tie.Need-resolve-srt-requires
-resolve-srt-requires c κs = (reading-ready _ _ _ _ _ (c .before .before .before .before .check-reading .ensures) (c .before .before .before .if1 .left) .ready, both-below (c .before .before .before .before .before .before .before .before .before .before .args .material) _ (c .before .before .before .before .before .before .before .before .before .before .args .layer) 3 (in-yes (c .before .before .before .before .before .before .before .before .before .before .args .material) (c .before .before .before .before .before .before .before .before .before .before .args .layer) 3 (c .before .before .material-count .ensures) (c .before .if2 .left)))
+resolve-srt-requires c κs = (reading-ready _ _ _ _ _ _ _ (c .before .before .before .before .check-reading .ensures) (c .before .before .before .if1 .left) .ready, both-below (c .before .before .before .before .before .before .before .before .before .before .args .material) _ (c .before .before .before .before .before .before .before .before .before .before .args .layer) 3 (in-yes (c .before .before .before .before .before .before .before .before .before .before .args .material) (c .before .before .before .before .before .before .before .before .before .before .args .layer) 3 (c .before .before .material-count .ensures) (c .before .if2 .left)))
 
 returns-3 : tie.Need-returns-3
 unfolding resolveSrtOf resolveSrtTable layerRows
-returns-3 c = layer-made (goes _ _ tt (c .before .before .before .before .before .check-reading .ensures) (c .before .before .before .before .if1 .left) (passes 7 _ (in-yes (c .before .before .before .before .before .before .before .before .before .before .before .args .material) (c .before .before .before .before .before .before .before .before .before .before .before .args .layer) 3 (c .before .before .before .material-count .ensures) (c .before .before .if2 .left)) no-rows)) (rw (← c .before .active-in .ensures) (c .resolve-srt .ensures))
+returns-3 c = layer-made (search (after-reading, in-no, in-yes)) (rw (← c .before .active-in .ensures) (c .resolve-srt .ensures))
 
 pub resolve-srt-spec : {M : Type 1} → statement M
 resolve-srt-spec =

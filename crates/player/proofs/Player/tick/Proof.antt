@@ -1,4 +1,6 @@
-use Rattle.player.proofs.Laws.{selected, idle-is, running-is, ended-is}
+use Rattle.laws.specs.Tests.{yes}
+use Rattle.player.specs.Ticked.{tick-animation}
+use Rattle.player.proofs.Laws.{idle-is, running-is, ended-is}
 use borrow.Author.Needs.{needs}
 use Rattle.player.proofs.Player.tick.Statement.{statement}
 use Rattle.player.proofs.Player.tick.Tie as tie
@@ -16,16 +18,16 @@ tick-sum-requires : tie.Need-tick-sum-requires
 tick-sum-requires c κs = search needs
 
 tick-frame-requires : tie.Need-tick-frame-requires
-tick-frame-requires c κs = let k = c .before .before .before .before .before .pre in (k .sheet, k .selection (selected (c .before .before .before .before .before .args .self) _ (c .before .before .before .ticks .ensures) (c .before .before .if1 .left)))
+tick-frame-requires c κs = tick-animation (c .before .before .before .before .before .pre) (yes (c .before .before .before .ticks .ensures) (c .before .before .if1 .left))
 
 tick-ends-requires : tie.Need-tick-ends-requires
-tick-ends-requires c κs = let k = c .before .before .before .before .before .before .pre in (k .sheet, k .selection (selected (c .before .before .before .before .before .before .args .self) _ (c .before .before .before .before .ticks .ensures) (c .before .before .before .if1 .left)))
+tick-ends-requires c κs = tick-animation (c .before .before .before .before .before .before .pre) (yes (c .before .before .before .before .ticks .ensures) (c .before .before .before .if1 .left))
 
 returns-2 : tie.Need-returns-2
 returns-2 c = running-is _ _ _ _ _ (c .before .before .before .before .before .before .ticks .ensures) (c .before .before .before .before .before .if1 .left) _ _ _ (c .before .before .before .tick-sum .ensures) (c .before .before .tick-frame .ensures) (c .before .tick-ends .ensures) (c .if2 .taken)
 
 end-of-requires : tie.Need-end-of-requires
-end-of-requires c κs = let k = c .before .before .before .before .before .before .before .before .pre in (k .sheet, k .selection (selected (c .before .before .before .before .before .before .before .before .args .self) _ (c .before .before .before .before .before .before .ticks .ensures) (c .before .before .before .before .before .if1 .left)))
+end-of-requires c κs = tick-animation (c .before .before .before .before .before .before .before .before .pre) (yes (c .before .before .before .before .before .before .ticks .ensures) (c .before .before .before .before .before .if1 .left))
 
 returns-3 : tie.Need-returns-3
 returns-3 c = ended-is _ _ _ _ _ (c .before .before .before .before .before .before .before .ticks .ensures) (c .before .before .before .before .before .before .if1 .left) _ _ _ (c .before .before .before .before .tick-sum .ensures) (c .before .before .before .tick-frame .ensures) (c .before .before .tick-ends .ensures) (c .before .if2 .left) _ (c .end-of .ensures)

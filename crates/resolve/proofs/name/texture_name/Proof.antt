@@ -1,24 +1,11 @@
-use Prim.Native.Nat.{ℕ}
-use mathlib.Core.Path.{_≡_, sym, _∙_}
-use native.Mathlib.Omega.{arith}
-use Rattle.laws.specs.declared.Found.the-variants as found
+use mathlib.Core.Path.{sym, _∙_, ap}
 use Rattle.channel.specs.Slot.{slot-below}
 use Rattle.channel.specs.Within.{material-below}
-use Rattle.reading.specs.Overrides.{row-below}
-use Rattle.reading.specs.declared.Reading.{Reading}
-use Rattle.reading.specs.declared.Reading.the-variants.{Nothing, Number, Shown, Row, Level}
 use Rattle.resolve.specs.Resolve.{rowIn, textureOf}
+use Rattle.resolve.specs.Textures.{named-below}
 use borrow.Author.Needs.{needs}
 use Rattle.resolve.proofs.name.texture_name.Statement.{statement}
 use Rattle.resolve.proofs.name.texture_name.Tie as tie
-
--- a row that is named is read
-is-row : (r : Reading) (k : ℕ) → rowIn r ≡ found.At k → r ≡ Row k
-is-row Nothing k e = let z : _≡_ {A = ℕ} 0 1 = cc in absurd (omega arith)
-is-row (Number v) k e = let z : _≡_ {A = ℕ} 0 1 = cc in absurd (omega arith)
-is-row (Shown b) k e = let z : _≡_ {A = ℕ} 0 1 = cc in absurd (omega arith)
-is-row (Row n) k e = let q : n ≡ k = cc in rw q
-is-row (Level l) k e = let z : _≡_ {A = ℕ} 0 1 = cc in absurd (omega arith)
 
 cast-slot-channel : tie.Need-cast-slot-channel
 cast-slot-channel c = search needs
@@ -52,7 +39,7 @@ unfolding textureOf
 returns c = rw (← c .before .before .before .before .before .before .slot-channel .ensures, ← c .before .before .before .before .before .of-material .ensures, ← c .before .before .before .before .read-channel .ensures, ← c .before .before .before .row-in .ensures, c .before .enum-told .given .1) (c .material-texture .ensures)
 
 texture-name-requires : tie.Need-texture-name-requires
-texture-name-requires c κs = (c .before .before .before .before .before .before .before .before .before .before .before .before .pre .0 .sheet, row-below _ _ _ _ _ _ _ _ (sym (c .before .before .before .before .read-channel .ensures) ∙ is-row _ _ (sym (c .before .before .before .row-in .ensures) ∙ c .before .k .given .1)))
+texture-name-requires c κs = (c .before .before .before .before .before .before .before .before .before .before .before .before .pre .0 .sheet, named-below _ _ _ _ _ _ _ _ (ap rowIn (sym (c .before .before .before .before .read-channel .ensures)) ∙ sym (c .before .before .before .row-in .ensures) ∙ c .before .k .given .1))
 
 returns-2 : tie.Need-returns-2
 unfolding textureOf
