@@ -8,7 +8,7 @@ use lib.Dec.{eqb}
 use lib.ListN.{length}
 use lib.Ieee.{Float}
 use Rattle.laws.specs.Tests.{both}
-use Rattle.laws.specs.Rows.{declines, held}
+use Rattle.laws.specs.Rows.{declines, held, hold-at, row-in}
 use Rattle.sheet.specs.Sizes.{keyCount, framesAt, pointsAt}
 use Rattle.sheet.specs.Checked.{checked}
 use Rattle.keys.specs.Checked.{KeysChecked, keys-checked}
@@ -26,12 +26,12 @@ pub record Loadable (s : List ℕ) (f v z : ℕ) : Type 0 where
 pub loadable : (s : List ℕ) (f v z : ℕ) → declines (loadTable s f v z) ≡ 0 → Loadable s f v z
 unfolding loadTable arraysOk
 loadable s f v z e =
-    let r = held _ tt e in
-    let h = keys-checked s (storedFrames s) (storedValues s) (storedSlopes s) (r .1 .1 .0) in
-    let c = both (eqb f (keyCount s) && eqb v (keyCount s)) (eqb z (keyCount s)) (r .1 .0) in
+    let r = held (loadTable s f v z) tt e in
+    let h = keys-checked s (storedFrames s) (storedValues s) (storedSlopes s) (hold-at 4 (loadTable s f v z) (search row-in) r) in
+    let c = both (eqb f (keyCount s) && eqb v (keyCount s)) (eqb z (keyCount s)) (hold-at 3 (loadTable s f v z) (search row-in) r) in
     let b = both (eqb f (keyCount s)) (eqb v (keyCount s)) (c .0) in
     record {
-      stored = record { checked = checked s (r .0); numbers = h .numbers };
+      stored = record { checked = checked s (hold-at 1 (loadTable s f v z) (search row-in) r); numbers = h .numbers };
       frames = eqb-true f (keyCount s) (b .0);
       values = eqb-true v (keyCount s) (b .1);
       slopes = eqb-true z (keyCount s) (c .1);

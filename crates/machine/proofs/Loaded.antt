@@ -10,7 +10,7 @@ use lib.Dec.{T}
 use lib.ListN.{length, getD, List·getD-eq-default}
 use lib.Ieee.{Float, nan, binary32, fits}
 use lib.Ieee.Bits.{ofBits-fits}
-use Rattle.laws.specs.Rows.{declines, held}
+use Rattle.laws.specs.Rows.{declines, held-at, row-in}
 use Rattle.laws.specs.Table.{table-length, table-at}
 use Rattle.field.specs.Read.{floatAt, u32At}
 use Rattle.sheet.specs.Sizes.{keyCount}
@@ -35,11 +35,11 @@ loaded-keys s ks e = rw (not-declined s ks e)
 
 pub loaded-sheet : (s : List ℕ) (ks : Keys) → loadedOf s ks .refusal ≡ 0 → sheetOk s ≡ true
 unfolding loadTable
-loaded-sheet s ks e = held (loadTable s (length (ks .frames)) (length (ks .values)) (length (ks .slopes))) tt (not-declined s ks e) .0
+loaded-sheet s ks e = held-at 1 (loadTable s (length (ks .frames)) (length (ks .values)) (length (ks .slopes))) (search row-in) tt (not-declined s ks e)
 
 loaded-rules : (s : List ℕ) (ks : Keys) → loadedOf s ks .refusal ≡ 0 → keysOk s (storedFrames s) (storedValues s) (storedSlopes s) ≡ true
 unfolding loadTable
-loaded-rules s ks e = held (loadTable s (length (ks .frames)) (length (ks .values)) (length (ks .slopes))) tt (not-declined s ks e) .1 .1 .0
+loaded-rules s ks e = held-at 4 (loadTable s (length (ks .frames)) (length (ks .values)) (length (ks .slopes))) (search row-in) tt (not-declined s ks e)
 
 -- each stored number is the value of a bit pattern
 floats-held : (s : List ℕ) (at stride n : ℕ) → Held (floatsFrom s at stride n)

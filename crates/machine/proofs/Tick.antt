@@ -6,7 +6,7 @@ use Prim.Native.Nat.{ℕ, zero, suc, _<_, _^_}
 use native.Mathlib.Omega.{arith}
 use lib.Dec.{eqb}
 use lib.Ieee.{Float}
-use Rattle.laws.specs.Rows.{declines, held}
+use Rattle.laws.specs.Rows.{declines, held-at, row-in}
 use Rattle.laws.specs.Tests.{and-2}
 use Rattle.float.specs.Numbers.{finite}
 use Rattle.sheet.specs.Rows.{nextName}
@@ -36,7 +36,7 @@ tick-seen s dt fps v w e = go (ticks v) refl
     go true q =
         record {
           selection = w .selection;
-          frame = finite-left (ticks v) (finite (tickSum v dt fps)) (finite (tickFrame s (v .selection) (tickSum v dt fps))) q (held (tickRows s v dt fps) tt e .1 .0);
+          frame = finite-left (ticks v) (finite (tickSum v dt fps)) (finite (tickFrame s (v .selection) (tickSum v dt fps))) q (held-at 8 (tickRows s v dt fps) (search row-in) tt e);
         }
     go false q = w
 

@@ -7,7 +7,7 @@ use borrow.Author.Tests.{eqb-true}
 use lib.Dec.{eqb}
 use lib.ListN.{length}
 use lib.Ieee.{Float}
-use Rattle.laws.specs.Rows.{Row, declines, first-held, stops, goes, row-laws}
+use Rattle.laws.specs.Rows.{Row, declines, first-held, hold-at, row-in, stops, goes, row-laws}
 use Rattle.laws.specs.Tests.{both}
 use Rattle.sheet.specs.Sizes.{keyCount}
 use Rattle.sheet.specs.Checked.{Checked, checked}
@@ -29,7 +29,7 @@ pub record PlayerReady (s : List ℕ) (p : Player) : Type 0 where
 pub player-ready : (s : List ℕ) (p : Player) (more : List Row) {n : ℕ} → n ≡ declines (playerRows s p ++ more) → n ≡ 0 → PlayerReady s p
 player-ready s p more e z =
     let h = first-held (playerRows s p) more tt (sym e ∙ z) .0 in
-    record { sheet = checked s (h .0); player = sound s p (h .1 .0) }
+    record { sheet = checked s (hold-at 1 (playerRows s p) (search row-in) h); player = sound s p (hold-at 5 (playerRows s p) (search row-in) h) }
 
 pub selected : {s : List ℕ} {p : Player} → PlayerReady s p → Selected s p
 selected w = record { sheet = w .sheet; selection = selected-below (w .player) }
@@ -48,15 +48,16 @@ pub state-ready : (s : List ℕ) (p : Player) (fs vs ss : List Float) (more : Li
 unfolding arraysOk lengthsOk
 state-ready s p fs vs ss more e z =
     let k = first-held (keysRows s (keys fs vs ss)) (brokenRows s p ++ more) tt (sym e ∙ z) in
-    let b = both _ (eqb (length ss) (keyCount s)) (k .0 .1 .0) in
+    let long : lengthsOk s fs vs ss ≡ true = hold-at 3 (keysRows s (keys fs vs ss)) (search row-in) (k .0) in
+    let b = both _ (eqb (length ss) (keyCount s)) long in
     let a = both (eqb (length fs) (keyCount s)) (eqb (length vs) (keyCount s)) (b .0) in
     record {
-      sheet = checked s (k .0 .0);
+      sheet = checked s (hold-at 1 (keysRows s (keys fs vs ss)) (search row-in) (k .0));
       frames = eqb-true _ _ (a .0);
       values = eqb-true _ _ (a .1);
       slopes = eqb-true _ _ (b .1);
-      rules = k .0 .1 .1 .0;
-      player = sound s p (first-held (brokenRows s p) more tt (k .1) .0 .0);
+      rules = hold-at 4 (keysRows s (keys fs vs ss)) (search row-in) (k .0);
+      player = sound s p (hold-at 5 (brokenRows s p) (search row-in) (first-held (brokenRows s p) more tt (k .1) .0));
     }
 
 -- as an undo and a redo ask it
@@ -72,9 +73,10 @@ pub reading-ready : (s b : List ℕ) (p : Player) (fs vs ss : List Float) (more 
     → ReadingReady s b p (keys fs vs ss)
 reading-ready s b p fs vs ss more e z =
     let k = first-held (bookRows s b (keys fs vs ss)) (brokenRows s p ++ more) tt (sym e ∙ z) in
+    let rs = bookRows s b (keys fs vs ss) in
     record {
-      ready = ready s b fs vs ss (k .0 .0) (k .0 .1 .0) (k .0 .1 .1 .1 .0);
-      player = sound s p (first-held (brokenRows s p) more tt (k .1) .0 .0);
+      ready = ready s b fs vs ss (hold-at 1 rs (search row-in) (k .0)) (hold-at 2 rs (search row-in) (k .0)) (hold-at 4 rs (search row-in) (k .0));
+      player = sound s p (hold-at 5 (brokenRows s p) (search row-in) (first-held (brokenRows s p) more tt (k .1) .0));
     }
 
 -- ---- a call's own rows behind those that it shares: its list stops with them, or goes on

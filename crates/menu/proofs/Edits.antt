@@ -8,7 +8,7 @@ use borrow.Author.Tests.{ltb-true, ne-eqb}
 use lib.Dec.{eqb, ltb}
 use lib.ListN.{length, set}
 use lib.Ieee.{Float}
-use Rattle.laws.specs.Rows.{row, declines, first-held}
+use Rattle.laws.specs.Rows.{declines, first-held}
 use Rattle.laws.specs.Tests.{and-1, and-2}
 use Rattle.sheet.specs.Sizes.{targetCount, keyCount}
 use Rattle.sheet.specs.Rows.{targetRow}
@@ -21,6 +21,7 @@ use Rattle.player.specs.declared.edit.Spot.{Spot}
 use Rattle.player.specs.Keys.{keys, keyAt, putKey}
 use Rattle.player.specs.Player.{none, hasKey}
 use Rattle.player.specs.Edit.{place, spotOf, editedAt, edited, requestRows, keyIn, editRows}
+use Rattle.player.specs.Accepted.{accepted-key}
 use Rattle.player.specs.Spot.{Inside, InsideAll}
 use Rattle.player.specs.Counts.{CanEdit}
 use Rattle.player.specs.Undo.{editedPlayer}
@@ -62,12 +63,10 @@ pub record Allowed (s : List ℕ) (p : Player) (fs vs ss : List Float) (track ke
 
 module _ (s : List ℕ) (p : Player) (fs vs ss : List Float) (track key : ℕ) (r : Request) (n : ℕ) (e : n ≡ declines (editTable s p (keys fs vs ss) track key r)) where
   pub allowed : n ≡ 0 → Allowed s p fs vs ss track key
-  unfolding editTable editRows
+  unfolding editTable
   allowed z =
       let w = state-ready s p fs vs ss _ e z in
-      let own = first-held (stateRows s p (keys fs vs ss)) _ tt (sym e ∙ z) .1 in
-      let a = first-held (row 6 (not (eqb (p .selection) none)) ∷ row 7 (keyIn s (p .selection) track key) ∷ []) _ tt own .0 in
-      let h = in-has s (p .selection) track key (a .1 .0) in
+      let h = accepted-key s (p .selection) (keys fs vs ss) track key r (first-held (stateRows s p (keys fs vs ss)) _ tt (sym e ∙ z) .1) .0 in
       let c = w .player .counts in
       record {
         sheet = w .sheet;

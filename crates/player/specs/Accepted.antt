@@ -12,7 +12,7 @@ use lib.ListN.{getD}
 use lib.Ieee.{Float, nan, binary32, lt, eq, le, fits, ofBits}
 use lib.Ieee.Fits.{add-fits, sub-fits, cond-fits}
 use Rattle.laws.specs.Tests.{both, and-1, and-2, T-true, true-T}
-use Rattle.laws.specs.Rows.{row, declines, held, first-held}
+use Rattle.laws.specs.Rows.{declines, held, first-held, hold-at, row-in}
 use Rattle.float.specs.Numbers.{zero', _⊕_, _⊖_, real, finite, sameBits}
 use Rattle.float.specs.Bits.{finite-real, real-number}
 use Rattle.float.specs.Rank.{rank, eq-rank, le-real, le→, le-self, le-chain, lt-or-le}
@@ -35,7 +35,7 @@ use Rattle.player.specs.declared.edit.Request.the-variants as request
 use Rattle.player.specs.declared.edit.Spot.{Spot}
 use Rattle.player.specs.Keys.{Keys, keyAt, putKey, HeldKeys, HeldKey, put-held}
 use Rattle.player.specs.Player.{none, hasKey}
-use Rattle.player.specs.Edit.{place, spotOf, lowest, highest, clampedFrame, editedFrame, editedValue, editedAt, edited, overtakes, keyIn, requestRows, editRows}
+use Rattle.player.specs.Edit.{place, spotOf, lowest, highest, clampedFrame, editedFrame, editedValue, editedAt, edited, overtakes, keyRows, keyIn, requestRows, editRows}
 use Rattle.player.specs.Undo.{keysOkOf}
 use Rattle.player.specs.Put.{finiteNumbers, frameBefore, beforeNext, fitsAt, has-key, place-below, put-fits, here-fits}
 
@@ -208,8 +208,9 @@ pub accepted-key : (s : List ℕ) (selection : ℕ) (ks : Keys) (track key : ℕ
     → (hasKey s track key ≡ true) × (declines (requestRows (ks .frames) (spotOf s track key) r) ≡ 0)
 unfolding editRows keyIn
 accepted-key s selection ks track key r e =
-    let k = first-held (row 6 (not (eqb selection none)) ∷ row 7 (keyIn s selection track key) ∷ []) _ tt e in
-    (and-1 (hasKey s track key) _ (k .0 .1 .0), k .1)
+    let k = first-held (keyRows s selection track key) _ tt e in
+    let h : keyIn s selection track key ≡ true = hold-at 7 (keyRows s selection track key) (search row-in) (k .0) in
+    (and-1 (hasKey s track key) _ h, k .1)
 
 -- ---- an accepted edit
 module _ {s : List ℕ} (w : Checked s) (ks : Keys) (ok : keysOkOf s ks ≡ true) (hf : Held (ks .frames)) (track key : ℕ) (lt' : track < targetCount s) (lk : key < targetRow s track .count) where
