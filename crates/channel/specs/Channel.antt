@@ -1,7 +1,7 @@
 -- Which channel a target addresses (document 01, "Channels"): by the family of its four-letter code, its raw number and its layer, in the pane or
 -- material that its content reaches. Definitions only.
 use Prim.Native.Nat.{ℕ, _+_, _*_, _%_}
-use mathlib.Core.Bool.{Bool, cond, _||_}
+use mathlib.Core.Bool.{cond, _||_}
 use mathlib.Core.List.{List}
 use lib.Dec.{eqb, ltb}
 use Rattle.laws.specs.declared.Found.{Found}

@@ -4,7 +4,7 @@ use crate::Reached;
 use laws::Found;
 use sheet::Target;
 ghost use mathlib.Core.Path.{_≡_};
-ghost use Prim.Native.Nat.{ℕ, _<_};
+ghost use Prim.Native.Nat.{_<_};
 ghost use Rattle.book.specs.Sizes.{materialCount};
 ghost use Rattle.book.specs.Checked.{CheckedBook};
 ghost use Rattle.channel.specs.Channel.{familyOf, listed, paneChannel, colourPlace, materialChannel, slotChannel, paneChannels, materialChannels, channelCount, ofPane, ofMaterial, rowChannel};

@@ -8,7 +8,7 @@ use laws::refusal::KEY_ARRAY_LENGTH;
 use laws::refusal::KEY_RULES;
 use laws::refusal::SHEET_LAYOUT;
 ghost use mathlib.Core.Path.{_≡_};
-ghost use Prim.Native.Nat.{ℕ, _+_, _*_, _<_};
+ghost use Prim.Native.Nat.{_+_, _*_, _<_};
 ghost use lib.ListN.{length};
 ghost use Rattle.sheet.specs.Checked.{Checked};
 ghost use Rattle.keys.specs.Stored.{floatsFrom, Floats};

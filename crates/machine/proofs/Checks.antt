@@ -14,7 +14,7 @@ use Rattle.player.specs.declared.journal.Journal.{Journal}
 use Rattle.player.specs.Journal.{rowOf}
 use Rattle.player.specs.Player.{entryOk, usedOk, countsOk, playerOk, most, rows}
 use Rattle.book.specs.Book.{bookOk}
-use Rattle.menu.specs.Rows.{heldRows, brokenRows, playerRows, stateRows, readingRows}
+use Rattle.menu.specs.Rows.{arrayRows, brokenRows, playerRows, stateRows, readingRows}
 use Rattle.machine.specs.Plain.{Plain, keysOf}
 use Rattle.machine.proofs.Invariant.{Good, image, back-ok, fore-ok}
 
@@ -58,6 +58,6 @@ module _ (s : List ℕ) (n : ℕ) (m : Plain) (j : Journal) (ok : sheetOk s ≡ 
   pub reading-passes : (b : List ℕ) (own : List Row) → declines (readingRows s b (image m j) (keysOf s m) ++ own) ≡ declines (row 2 (bookOk b) ∷ own)
   unfolding declines
   reading-passes b own =
-      let behind = heldRows s (keysOf s m) ++ brokenRows s (image m j) in
+      let behind = arrayRows s (keysOf s m) ++ brokenRows s (image m j) in
       joined (row 1 (sheetOk s) ∷ []) (row 2 (bookOk b) ∷ (behind ++ own)) (ok, tt) ∙
       ap (unless (bookOk b) 2) (joined behind own (g .sane .long, (g .sane .rules, (player-ok, tt))))

@@ -1,7 +1,7 @@
 -- What the rows that calls share tell where each holds, and how a call's own rows follow them. Assumes nothing.
 use Prim.Native.Nat.{ℕ}
 use mathlib.Core.Path.{_≡_, sym, _∙_}
-use mathlib.Core.Bool.{true, _&&_}
+use mathlib.Core.Bool.{true}
 use mathlib.Core.List.{List, _++_}
 use borrow.Author.Tests.{eqb-true}
 use lib.Dec.{eqb}

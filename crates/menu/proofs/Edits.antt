@@ -2,7 +2,7 @@
 use Prim.Native.Nat.{ℕ, _+_, _<_}
 use mathlib.Core.Path.{_≡_, sym, _∙_}
 use mathlib.Core.Bool.{true, false, not}
-use mathlib.Core.List.{List, [], _∷_}
+use mathlib.Core.List.{List}
 use native.Mathlib.Omega.{arith}
 use borrow.Author.Tests.{ltb-true, ne-eqb}
 use lib.Dec.{eqb, ltb}
@@ -20,7 +20,7 @@ use Rattle.player.specs.declared.edit.Request.{Request}
 use Rattle.player.specs.declared.edit.Spot.{Spot}
 use Rattle.player.specs.Keys.{keys, keyAt, putKey}
 use Rattle.player.specs.Player.{none, hasKey}
-use Rattle.player.specs.Edit.{place, spotOf, editedAt, edited, requestRows, keyIn, editRows}
+use Rattle.player.specs.Edit.{place, spotOf, editedAt, edited, requestRows, keyIn}
 use Rattle.player.specs.Accepted.{accepted-key}
 use Rattle.player.specs.Spot.{Inside, InsideAll}
 use Rattle.player.specs.Counts.{CanEdit}

@@ -25,8 +25,8 @@ use Rattle.player.specs.Undo.{undoRows, redoRows}
 -- ---- what calls take
 
 -- keys: rows 3 and 4
-abbrev pub heldRows : List ℕ → Keys → List Row
-heldRows s ks = lentRows s (ks .frames) (ks .values) (ks .slopes)
+abbrev pub arrayRows : List ℕ → Keys → List Row
+arrayRows s ks = lentRows s (ks .frames) (ks .values) (ks .slopes)
 
 -- a player: row 5
 abbrev pub brokenRows : List ℕ → Player → List Row
@@ -38,14 +38,14 @@ playerRows s p = row 1 (sheetOk s) ∷ brokenRows s p
 
 -- sheet and keys; with a player as well
 abbrev pub keysRows : List ℕ → Keys → List Row
-keysRows s ks = row 1 (sheetOk s) ∷ heldRows s ks
+keysRows s ks = row 1 (sheetOk s) ∷ arrayRows s ks
 
 abbrev pub stateRows : List ℕ → Player → Keys → List Row
 stateRows s p ks = keysRows s ks ++ brokenRows s p
 
 -- sheet, book and keys; with a player as well
 abbrev pub bookRows : List ℕ → List ℕ → Keys → List Row
-bookRows s b ks = row 1 (sheetOk s) ∷ row 2 (bookOk b) ∷ heldRows s ks
+bookRows s b ks = row 1 (sheetOk s) ∷ row 2 (bookOk b) ∷ arrayRows s ks
 
 abbrev pub readingRows : List ℕ → List ℕ → Player → Keys → List Row
 readingRows s b p ks = bookRows s b ks ++ brokenRows s p

@@ -1,13 +1,13 @@
 -- Laws that several proofs of this crate cite. Assumes nothing.
-use Prim.Native.Nat.{ℕ, _+_, _<_, _≤_, _^_}
-use mathlib.Core.Path.{_≡_, refl, sym, _∙_, ap}
+use Prim.Native.Nat.{ℕ, _+_, _<_, _^_}
+use mathlib.Core.Path.{_≡_, sym, _∙_, ap}
 use mathlib.Core.Bool.{Bool, true, false, not, _&&_}
 use mathlib.Core.List.{List}
 use native.Mathlib.Omega.{arith}
-use borrow.Author.Tests.{ltb-true, eqb-false, not-true, not-false, ne-eqb}
-use lib.Dec.{eqb, ltb}
+use borrow.Author.Tests.{ltb-true, not-true, not-false, ne-eqb}
+use lib.Dec.{eqb}
 use Rattle.laws.specs.Tests.{and-1, and-2}
-use Rattle.sheet.specs.Sizes.{targetCount, keyCount}
+use Rattle.sheet.specs.Sizes.{targetCount}
 use Rattle.sheet.specs.Rows.{targetRow}
 use Rattle.sheet.specs.Checked.{Checked, target-keys}
 use Rattle.sheet.specs.declared.rows.Target.{Target}
@@ -24,9 +24,9 @@ use Rattle.player.specs.declared.edit.Spot.{Spot}
 use Rattle.player.specs.Keys.{keys, keyAt}
 use Rattle.player.specs.Edit.{editedFrame, editedValue, editedAt, clampedFrame, overtakes}
 use Rattle.player.specs.declared.Tick.{Tick}
-use Rattle.player.specs.declared.Tick.the-variants.{Idle, Running, Ended, Next}
+use Rattle.player.specs.declared.Tick.the-variants.{Idle, Running}
 use Rattle.player.specs.declared.playing.Stepped.{Stepped}
-use Rattle.player.specs.View.{View, viewOf, ticks, tickSum, tickFrame, tickEnds, endOf, tickView, tickAnswer}
+use Rattle.player.specs.View.{viewOf, ticks, tickSum, tickFrame, tickEnds, endOf, tickView, tickAnswer}
 use Rattle.player.specs.Ticked.{steppedOf}
 
 -- a key that the sheet has is on one of its tracks

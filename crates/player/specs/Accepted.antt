@@ -4,7 +4,7 @@
 use Prim.Native.Nat.{ℕ, _+_, _-_, _<_}
 use mathlib.Core.Path.{_≡_, refl, _∙_}
 use mathlib.Core.Bool.{Bool, true, false, not, cond, _&&_, _||_}
-use mathlib.Core.List.{List, [], _∷_}
+use mathlib.Core.List.{List}
 use native.Mathlib.Omega.{arith}
 use borrow.Author.Tests.{eqb-true, eq-eqb, ltb-true, not-true}
 use lib.Dec.{T, eqb}
@@ -34,8 +34,8 @@ use Rattle.player.specs.declared.edit.Request.{Request}
 use Rattle.player.specs.declared.edit.Request.the-variants as request
 use Rattle.player.specs.declared.edit.Spot.{Spot}
 use Rattle.player.specs.Keys.{Keys, keyAt, putKey, HeldKeys, HeldKey, put-held}
-use Rattle.player.specs.Player.{none, hasKey}
-use Rattle.player.specs.Edit.{place, spotOf, lowest, highest, clampedFrame, editedFrame, editedValue, editedAt, edited, overtakes, keyRows, keyIn, requestRows, editRows}
+use Rattle.player.specs.Player.{hasKey}
+use Rattle.player.specs.Edit.{place, spotOf, lowest, highest, clampedFrame, editedFrame, editedValue, editedAt, edited, overtakes, trackRows, keyIn, requestRows, editRows}
 use Rattle.player.specs.Undo.{keysOkOf}
 use Rattle.player.specs.Put.{finiteNumbers, frameBefore, beforeNext, fitsAt, has-key, place-below, put-fits, here-fits}
 
@@ -208,8 +208,8 @@ pub accepted-key : (s : List ℕ) (selection : ℕ) (ks : Keys) (track key : ℕ
     → (hasKey s track key ≡ true) × (declines (requestRows (ks .frames) (spotOf s track key) r) ≡ 0)
 unfolding editRows keyIn
 accepted-key s selection ks track key r e =
-    let k = first-held (keyRows s selection track key) _ tt e in
-    let h : keyIn s selection track key ≡ true = hold-at 7 (keyRows s selection track key) (search row-in) (k .0) in
+    let k = first-held (trackRows s selection track key) _ tt e in
+    let h : keyIn s selection track key ≡ true = hold-at 7 (trackRows s selection track key) (search row-in) (k .0) in
     (and-1 (hasKey s track key) _ h, k .1)
 
 -- ---- an accepted edit

@@ -1,10 +1,10 @@
 -- The keys of a sheet as three lists of one length (document 01, "Sheet and book": three lent f32 arrays), one key of them, and one key put in
 -- another's place. Assumes nothing.
 use Prim.Native.Nat.{ℕ, zero, suc, _<_}
-use mathlib.Core.Path.{_≡_, refl}
+use mathlib.Core.Path.{_≡_}
 use mathlib.Core.List.{List, [], _∷_}
 use lib.Dec.{T}
-use lib.ListN.{getD, set, length, length-set}
+use lib.ListN.{set, length, length-set}
 use lib.Seq.{getD-set-same, getD-set-other, set-set, set-getD}
 use lib.Ieee.{Float, nan, binary32, fits}
 use Rattle.curve.specs.declared.Key.{Key}

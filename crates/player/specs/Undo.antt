@@ -1,7 +1,7 @@
 -- Undo and redo (document 01, "Playing and editing"): the entry that each takes, when it may not be taken (rows 5 and 11 of the table), and the
 -- counts after it; and the journal and counts after an accepted edit. Assumes nothing.
 use Prim.Native.Nat.{ℕ, _+_, _-_, min}
-use mathlib.Core.Bool.{Bool, true, false, not, _&&_, _||_}
+use mathlib.Core.Bool.{Bool, not, _&&_, _||_}
 use mathlib.Core.List.{List, [], _∷_}
 use lib.Dec.{eqb}
 use Rattle.laws.specs.Rows.{Row, row}

@@ -1,6 +1,5 @@
 -- What play, pose and tick move (document 01, "Playing and editing"): frame, playing, preview and selection, and nothing else. Assumes nothing.
 use Prim.Native.Nat.{ℕ}
-use mathlib.Core.Path.{_≡_, refl}
 use mathlib.Core.Bool.{Bool, true, false, not, _&&_, _||_, cond}
 use mathlib.Core.List.{List}
 use lib.Dec.{eqb, ltb}

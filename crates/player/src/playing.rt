@@ -7,7 +7,7 @@ ghost use mathlib.Core.Path.{_≡_};
 ghost use Prim.Native.Nat.{_<_};
 ghost use Rattle.sheet.specs.Sizes.{animationCount};
 ghost use Rattle.sheet.specs.Checked.{Checked};
-ghost use Rattle.player.specs.View.{viewOf, withView, playView, poseView, ticks, tickSum, countOf, wraps, tickFrame, tickMoves, tickEnds, endOf, tickView, tickAnswer};
+ghost use Rattle.player.specs.View.{viewOf, withView, playView, poseView, ticks, tickSum, countOf, wraps, tickFrame, tickMoves, tickEnds, endOf};
 ghost use Rattle.player.specs.Ticked.{steppedOf, Selected};
 
 // What a tick answers, and the player after it.

@@ -23,7 +23,7 @@ use Rattle.channel.specs.declared.Family.{Family}
 use Rattle.channel.specs.declared.Family.the-variants as family
 use Rattle.channel.specs.declared.Reached.{Reached}
 use Rattle.channel.specs.declared.Reached.the-variants as reached
-use Rattle.reading.specs.Reading.{value16At, rowOf, readAs, rowReading, targetReading, lastTarget, readingOf, reading, markOf, numberOf, marksOf, numbersOf}
+use Rattle.reading.specs.Reading.{value16At, rowOf, readAs, rowReading, targetReading, lastTarget, reading, markOf, numberOf, marksOf, numbersOf}
 use Rattle.reading.specs.declared.Active.{Active}
 use Rattle.reading.specs.declared.Active.the-variants as active
 use Rattle.reading.specs.declared.Reading.{Reading}

@@ -1,7 +1,7 @@
 -- The number that a call's list declines with is what the call answers; and where that is not 0, numbers alone come back. Assumes nothing.
 use Prim.Native.Nat.{ℕ}
-use mathlib.Core.Path.{_≡_, refl, sym, _∙_, ap}
-use mathlib.Core.List.{List, []}
+use mathlib.Core.Path.{_≡_, refl, ap}
+use mathlib.Core.List.{List}
 use borrow.Author.Tests.{ne-eqb}
 use Rattle.laws.specs.Rows.{declines}
 use Rattle.keys.specs.Load.{loadOf}

@@ -4,7 +4,7 @@ use reading::Active;
 use reading::Reading;
 use reading::read_channel;
 ghost use mathlib.Core.Path.{_≡_};
-ghost use Prim.Native.Nat.{ℕ, _<_};
+ghost use Prim.Native.Nat.{_<_};
 ghost use Rattle.book.specs.Sizes.{materialCount};
 ghost use Rattle.channel.specs.Channel.{materialLayers};
 ghost use Rattle.reading.specs.Ready.{Ready};

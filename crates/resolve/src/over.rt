@@ -7,7 +7,7 @@ use reading::Active;
 use reading::Reading;
 use reading::read_channel;
 ghost use mathlib.Core.Path.{_≡_};
-ghost use Prim.Native.Nat.{ℕ, _+_, _*_, _<_};
+ghost use Prim.Native.Nat.{_+_, _*_, _<_};
 ghost use Rattle.book.specs.Sizes.{paneCount, materialCount};
 ghost use Rattle.channel.specs.Channel.{paneChannels, materialChannels, materialLayers};
 ghost use Rattle.reading.specs.Ready.{Ready};

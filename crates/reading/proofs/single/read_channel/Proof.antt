@@ -5,12 +5,6 @@ use Rattle.reading.proofs.Pass.{row-ready}
 use borrow.Author.Needs.{needs}
 use Rattle.reading.proofs.single.read_channel.Statement.{statement}
 use Rattle.reading.proofs.single.read_channel.Tie as tie
-use Rattle.reading.proofs.single.read_channel.Reads as reads
-use Rattle.reading.proofs.single.read_channel.Lts as lts
-use Rattle.reading.proofs.single.last_target.Reads as last-target-reads
-use Rattle.reading.proofs.value.row_reading.Reads as row-reading-reads
-use Rattle.sheet.proofs.target_row.Reads as target-row-reads
-use Rattle.sheet.proofs.texture_count.Reads as texture-count-reads
 
 -- src/single.rt:45:20
 enum-known-active : tie.Need-enum-known-active
