@@ -79,7 +79,8 @@ reading-ready s b p fs vs ss more e z =
       player = sound s p (hold-at 5 (brokenRows s p) (search row-in) (first-held (brokenRows s p) more tt (k .1) .0));
     }
 
--- ---- a call's own rows behind those that it shares: its list stops with them, or goes on
+-- ---- a call's own rows behind those that it shares: its list stops with them, or goes on. `stops` and `goes` for each list that calls share, since
+-- `search` finds where a named list ends in one that has computed, and not where any list does.
 module _ (s : List ℕ) (fs vs ss : List Float) (more : List Row) {n : ℕ} (e : n ≡ declines (keysRows s (keys fs vs ss))) where
   pub keys-stops : (n ≡ 0 → ⊥) → n ≡ declines (keysRows s (keys fs vs ss) ++ more)
   keys-stops d = stops (keysRows s (keys fs vs ss)) more e d
