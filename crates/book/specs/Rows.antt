@@ -3,12 +3,12 @@ use Prim.Native.Nat.{ℕ, _+_, _*_, _%_, _/_}
 use mathlib.Core.List.{List}
 use lib.Dec.{eqb}
 use Rattle.field.specs.Read.{byteAt, u16At, floatAt}
-use Rattle.field.specs.Name.{nameAt}
-use Rattle.book.specs.Sizes.{panesAt, materialsAt}
-use Rattle.book.specs.declared.rows.Vector2.{Vector2}
-use Rattle.book.specs.declared.rows.Vector3.{Vector3}
+use Rattle.field.specs.Name.{nameBytes, nameAt}
+use Rattle.book.specs.Sizes.{paneBytes, materialBytes, panesAt, materialsAt}
+use Rattle.float.specs.declared.vector.Vector2.{Vector2}
+use Rattle.float.specs.declared.vector.Vector3.{Vector3}
 use Rattle.book.specs.declared.rows.Pane.{Pane}
-use Rattle.book.specs.declared.rows.Srt.{Srt}
+use Rattle.float.specs.declared.vector.Srt.{Srt}
 
 -- two and three f32 in a row
 abbrev pub vector2At : List ℕ → ℕ → Vector2
@@ -22,7 +22,7 @@ vector3At b at = record { x = floatAt b at; y = floatAt b (at + 4); z = floatAt 
 abbrev pub paneAt : List ℕ → ℕ → Pane
 paneAt b at =
     record {
-      parent = u16At b (at + 24);
+      parent = u16At b (at + nameBytes);
       visible = eqb (byteAt b (at + 26) % 2) 1;
       influences = eqb (byteAt b (at + 26) / 2 % 2) 1;
       alpha = byteAt b (at + 27);
@@ -40,17 +40,17 @@ srtAt b at = record { translate = vector2At b at; rotate = floatAt b (at + 8); s
 
 -- row i of the panes, and SRT j of material i: its name, three texture names and three SRTs
 unfoldable pub paneRow : List ℕ → ℕ → Pane
-paneRow b i = paneAt b (panesAt + i * 72)
+paneRow b i = paneAt b (panesAt + i * paneBytes)
 
 unfoldable pub materialSrt : List ℕ → ℕ → ℕ → Srt
-materialSrt b i j = srtAt b (materialsAt b + i * 156 + 96 + j * 20)
+materialSrt b i j = srtAt b (materialsAt b + i * materialBytes + 96 + j * 20)
 
 -- the fields of the names: a pane's label, a material's name, its texture j
 unfoldable pub paneLabel : List ℕ → ℕ → List ℕ
-paneLabel b i = nameAt b (panesAt + i * 72)
+paneLabel b i = nameAt b (panesAt + i * paneBytes)
 
 unfoldable pub materialName : List ℕ → ℕ → List ℕ
-materialName b i = nameAt b (materialsAt b + i * 156)
+materialName b i = nameAt b (materialsAt b + i * materialBytes)
 
 unfoldable pub materialTexture : List ℕ → ℕ → ℕ → List ℕ
-materialTexture b i j = nameAt b (materialsAt b + i * 156 + 24 + j * 24)
+materialTexture b i j = nameAt b (materialsAt b + i * materialBytes + nameBytes + j * nameBytes)

@@ -11,12 +11,22 @@ paneCount b = u16At b 0
 abbrev pub materialCount : List ℕ → ℕ
 materialCount b = u16At b 2
 
+-- how many bytes the sizes take, and each row
+abbrev pub headBytes : ℕ
+headBytes = 4
+
+abbrev pub paneBytes : ℕ
+paneBytes = 72
+
+abbrev pub materialBytes : ℕ
+materialBytes = 156
+
 -- where the rows of panes and of materials start
 abbrev pub panesAt : ℕ
-panesAt = 4
+panesAt = headBytes
 
 abbrev pub materialsAt : List ℕ → ℕ
-materialsAt b = 4 + paneCount b * 72
+materialsAt b = panesAt + paneCount b * paneBytes
 
 -- the parent of a pane with none
 abbrev pub noParent : ℕ

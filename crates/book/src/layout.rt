@@ -2,17 +2,20 @@
 // A row's check has no early way out, so that its fields are read side by side; the loops over rows have one.
 use crate::rows::HEAD;
 use crate::rows::MATERIAL_BYTES;
+use crate::rows::NO_PARENT;
 use crate::rows::PANE_BYTES;
+use field::NAME_BYTES;
 use field::byte_at;
 use field::u16_at;
 ghost use mathlib.Core.Path.{_≡_};
-ghost use Prim.Native.Nat.{ℕ, _+_, _*_, _<_, _≤_};
+ghost use Prim.Native.Nat.{_+_, _*_, _<_, _≤_};
 ghost use lib.ListN.{length};
 ghost use Rattle.laws.specs.Below.{allBelow};
+ghost use Rattle.book.specs.Sizes.{headBytes, paneBytes, materialBytes, panesAt};
 ghost use Rattle.book.specs.Book.{sizesOk, paneOk, materialOk, bookOk};
 
 fn sizes_ok(b: &[u8]) -> bool
-    requires { ⌜ 4 ≤ length (now b) ⌝ }
+    requires { ⌜ headBytes ≤ length (now b) ⌝ }
     ensures { λ r. ⌜ r ≡ sizesOk (now (b .entry)) ⌝ }
 {
     let p = u16_at(b, 0);
@@ -21,12 +24,12 @@ fn sizes_ok(b: &[u8]) -> bool
 }
 
 fn pane_ok(b: &[u8], i: usize) -> bool
-    requires { ⌜ 4 + i * 72 + 72 ≤ length (now b) ⌝ }
+    requires { ⌜ panesAt + i * paneBytes + paneBytes ≤ length (now b) ⌝ }
     ensures { λ r. ⌜ r ≡ paneOk (now (b .entry)) i ⌝ }
 {
     let at = HEAD + i * PANE_BYTES;
-    let parent = u16_at(b, at + 24);
-    ((parent == 65535) | (parent < i))
+    let parent = u16_at(b, at + NAME_BYTES);
+    ((parent == NO_PARENT) | (parent < i))
         & (byte_at(b, at + 26) <= 3)
         & (byte_at(b, at + 28) <= 2)
         & (byte_at(b, at + 29) <= 2)
@@ -35,7 +38,7 @@ fn pane_ok(b: &[u8], i: usize) -> bool
 }
 
 fn panes_ok(b: &[u8], n: usize) -> bool
-    requires { ⌜ 4 + n * 72 ≤ length (now b) ⌝ }
+    requires { ⌜ panesAt + n * paneBytes ≤ length (now b) ⌝ }
     ensures { λ r. ⌜ r ≡ allBelow n (paneOk (now (b .entry))) ⌝ }
 {
     let mut i = 0;
@@ -50,14 +53,14 @@ fn panes_ok(b: &[u8], n: usize) -> bool
 }
 
 fn material_ok(b: &[u8], base: usize, i: usize) -> bool
-    requires { ⌜ base + i * 156 + 156 ≤ length (now b) ⌝ }
+    requires { ⌜ base + i * materialBytes + materialBytes ≤ length (now b) ⌝ }
     ensures { λ r. ⌜ r ≡ materialOk (now (b .entry)) base i ⌝ }
 {
     field::finite_row(b, base + i * MATERIAL_BYTES + 96, 15)
 }
 
 fn materials_ok(b: &[u8], base: usize, n: usize) -> bool
-    requires { ⌜ base + n * 156 ≤ length (now b) ⌝ }
+    requires { ⌜ base + n * materialBytes ≤ length (now b) ⌝ }
     ensures { λ r. ⌜ r ≡ allBelow n (materialOk (now (b .entry)) base) ⌝ }
 {
     let mut i = 0;

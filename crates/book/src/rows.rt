@@ -1,11 +1,15 @@
 // The sizes and the rows of a book, by value, and the names in it, as parts of the lent slice. The rows ask for a checked book.
+use field::NAME_BYTES;
 use field::byte_at;
 use field::f32_at;
 use field::u16_at;
+use float::Srt;
+use float::Vector2;
+use float::Vector3;
 ghost use mathlib.Core.Path.{_≡_};
-ghost use Prim.Native.Nat.{ℕ, _+_, _*_, _<_, _≤_};
+ghost use Prim.Native.Nat.{_+_, _*_, _<_, _≤_};
 ghost use lib.ListN.{length};
-ghost use Rattle.book.specs.Sizes.{paneCount, materialCount, materialsAt};
+ghost use Rattle.book.specs.Sizes.{paneCount, materialCount, headBytes, materialsAt};
 ghost use Rattle.book.specs.Rows.{vector2At, vector3At, paneRow, materialSrt, paneLabel, materialName, materialTexture};
 ghost use Rattle.book.specs.Checked.{CheckedBook};
 ghost use Rattle.field.specs.Read.{FiniteFrom};
@@ -17,16 +21,8 @@ pub const PANE_BYTES: usize = 72;
 
 pub const MATERIAL_BYTES: usize = 156;
 
-pub struct Vector2 {
-    pub x: f32,
-    pub y: f32,
-}
-
-pub struct Vector3 {
-    pub x: f32,
-    pub y: f32,
-    pub z: f32,
-}
+// The parent of a pane with none.
+pub const NO_PARENT: usize = 65535;
 
 pub struct Pane {
     pub parent: usize,
@@ -41,30 +37,24 @@ pub struct Pane {
     pub size: Vector2,
 }
 
-pub struct Srt {
-    pub translate: Vector2,
-    pub rotate: f32,
-    pub scale: Vector2,
-}
-
 // ---- sizes, and where the materials start
 
 pub fn pane_count(b: &[u8]) -> usize
-    requires { ⌜ 4 ≤ length (now b) ⌝ }
+    requires { ⌜ headBytes ≤ length (now b) ⌝ }
     ensures { λ r. ⌜ r ≡ paneCount (now (b .entry)) ⌝ }
 {
     u16_at(b, 0)
 }
 
 pub fn material_count(b: &[u8]) -> usize
-    requires { ⌜ 4 ≤ length (now b) ⌝ }
+    requires { ⌜ headBytes ≤ length (now b) ⌝ }
     ensures { λ r. ⌜ r ≡ materialCount (now (b .entry)) ⌝ }
 {
     u16_at(b, 2)
 }
 
 pub fn materials_at(b: &[u8]) -> usize
-    requires { ⌜ 4 ≤ length (now b) ⌝ }
+    requires { ⌜ headBytes ≤ length (now b) ⌝ }
     ensures { λ r. ⌜ r ≡ materialsAt (now (b .entry)) ⌝ }
 {
     HEAD + u16_at(b, 0) * PANE_BYTES
@@ -100,7 +90,7 @@ pub fn pane_row(b: &[u8], i: usize) -> Pane
     let at = HEAD + i * PANE_BYTES;
     let flags = byte_at(b, at + 26);
     Pane {
-        parent: u16_at(b, at + 24),
+        parent: u16_at(b, at + NAME_BYTES),
         visible: flags % 2 == 1,
         influences: flags / 2 % 2 == 1,
         alpha: byte_at(b, at + 27) as u8,
@@ -147,5 +137,8 @@ pub fn material_texture<'a>(b: &'a [u8], i: usize, j: usize) -> &'a [u8]
     requires { ⌜ CheckedBook (now b) × ((i < materialCount (now b)) × (j < 3)) ⌝ }
     ensures { λ r. ⌜ now r ≡ materialTexture (now (b .entry)) i j ⌝ }
 {
-    field::name_at(b, materials_at(b) + i * MATERIAL_BYTES + 24 + j * 24)
+    field::name_at(
+        b,
+        materials_at(b) + i * MATERIAL_BYTES + NAME_BYTES + j * NAME_BYTES,
+    )
 }

@@ -7,10 +7,10 @@ use lib.Dec.{eqb, ltb}
 use Rattle.laws.specs.declared.Found.{Found}
 use Rattle.laws.specs.declared.Found.the-variants as found
 use Rattle.field.specs.Name.{findName}
-use Rattle.sheet.specs.Sizes.{contentCount, contentsAt}
+use Rattle.sheet.specs.Sizes.{contentCount, contentBytes, rowName, contentsAt}
 use Rattle.sheet.specs.Rows.{contentRow, targetRow}
 use Rattle.sheet.specs.declared.rows.Target.{Target}
-use Rattle.book.specs.Sizes.{paneCount, materialCount, panesAt, materialsAt}
+use Rattle.book.specs.Sizes.{paneCount, materialCount, paneBytes, materialBytes, panesAt, materialsAt}
 use Rattle.channel.specs.declared.Family.{Family}
 use Rattle.channel.specs.declared.Family.the-variants.{PaneSrt, Visibility, VertexColor, TextureSrt, TexturePattern, IndirectSrt, AlphaCompare, MaterialColor, Other}
 use Rattle.channel.specs.declared.Reached.{Reached}
@@ -43,12 +43,23 @@ paneChannels = 28
 abbrev pub materialChannels : ℕ
 materialChannels = 30
 
+-- a pane's channels after its SRT's ten; the corner colours follow
+abbrev pub visibleChannel : ℕ
+visibleChannel = 10
+
+abbrev pub alphaChannel : ℕ
+alphaChannel = 11
+
 -- how many layers a material has, each with a texture slot, and the first slot's channel
 abbrev pub materialLayers : ℕ
 materialLayers = 3
 
 abbrev pub firstTexture : ℕ
 firstTexture = 15
+
+-- how many variants the enum of material colours has
+abbrev pub colourVariants : ℕ
+colourVariants = 28
 
 -- a raw number of an enum with n variants: one that targets.rs doesn't list gives the first variant
 unfoldable pub listed : ℕ → ℕ → ℕ
@@ -57,8 +68,8 @@ listed n raw = cond (ltb raw n) raw 0
 -- a pane's: SRT 0..9, visible 10, alpha 11, corner colours 12..27. PaneAlpha is the last of VertexColorTarget's 17.
 unfoldable pub paneChannel : Family → ℕ → Found
 paneChannel PaneSrt raw = found.At (listed 10 raw)
-paneChannel Visibility raw = found.At 10
-paneChannel VertexColor raw = cond (eqb (listed 17 raw) 16) (found.At 11) (found.At (12 + listed 17 raw))
+paneChannel Visibility raw = found.At visibleChannel
+paneChannel VertexColor raw = cond (eqb (listed 17 raw) 16) (found.At alphaChannel) (found.At (12 + listed 17 raw))
 paneChannel TextureSrt raw = found.Nothing
 paneChannel TexturePattern raw = found.Nothing
 paneChannel IndirectSrt raw = found.Nothing
@@ -70,6 +81,10 @@ paneChannel Other raw = found.Nothing
 unfoldable pub colourPlace : ℕ → ℕ
 colourPlace i = cond (ltb i 4) i (4 + i % 4)
 
+-- The channel of a material's texture slot. A slot that there isn't has no channel: its number is one past the last.
+unfoldable pub slotChannel : ℕ → ℕ
+slotChannel slot = cond (ltb slot materialLayers) (firstTexture + slot) materialChannels
+
 -- a material's: three layers of five 0..14, textures 15..17, indirect rotation and two scales 18..20, alpha reference 21, colours 22..29.
 -- Layers from 3 up are skipped where the family has layers.
 unfoldable pub materialChannel : Family → ℕ → ℕ → Found
@@ -77,15 +92,11 @@ materialChannel PaneSrt raw layer = found.Nothing
 materialChannel Visibility raw layer = found.Nothing
 materialChannel VertexColor raw layer = found.Nothing
 materialChannel TextureSrt raw layer = cond (ltb layer materialLayers) (found.At (layer * 5 + listed 5 raw)) found.Nothing
-materialChannel TexturePattern raw layer = cond (ltb layer materialLayers) (found.At (firstTexture + layer)) found.Nothing
+materialChannel TexturePattern raw layer = cond (ltb layer materialLayers) (found.At (slotChannel layer)) found.Nothing
 materialChannel IndirectSrt raw layer = found.At (18 + listed 3 raw)
 materialChannel AlphaCompare raw layer = found.At 21
-materialChannel MaterialColor raw layer = found.At (22 + colourPlace (listed 28 raw))
+materialChannel MaterialColor raw layer = found.At (22 + colourPlace (listed colourVariants raw))
 materialChannel Other raw layer = found.Nothing
-
--- The channel of a material's texture slot. A slot that there isn't has no channel: its number is one past the last.
-unfoldable pub slotChannel : ℕ → ℕ
-slotChannel slot = cond (ltb slot materialLayers) (firstTexture + slot) materialChannels
 
 -- ---- the channels of a book: panes first, then materials
 
@@ -112,10 +123,10 @@ asMaterial found.Nothing = reached.Nothing
 
 -- the pane with the content's name as its label, and the material of its name
 unfoldable pub paneNamed : List ℕ → List ℕ → ℕ → Found
-paneNamed s b c = findName b panesAt 72 (paneCount b) s (contentsAt s + c * 28 + 4)
+paneNamed s b c = findName b panesAt paneBytes (paneCount b) s (contentsAt s + c * contentBytes + rowName)
 
 unfoldable pub materialNamed : List ℕ → List ℕ → ℕ → Found
-materialNamed s b c = findName b (materialsAt b) 156 (materialCount b) s (contentsAt s + c * 28 + 4)
+materialNamed s b c = findName b (materialsAt b) materialBytes (materialCount b) s (contentsAt s + c * contentBytes + rowName)
 
 -- content types: 0 Pane and 3 PaneExt reach the pane, 1 Material the material, any other nothing
 unfoldable pub contentReach : List ℕ → List ℕ → ℕ → Reached

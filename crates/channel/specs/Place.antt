@@ -6,7 +6,7 @@ use mathlib.Core.Bool.{Bool, true, false, cond, _&&_, _||_}
 use mathlib.Core.Path.{_≡_, refl, sym, _∙_, ap}
 use native.Mathlib.Omega.{arith}
 use native.Mathlib.Nat.{div-add-mod'}
-use borrow.Author.Tests.{ltb-true, ltb-false, lt-ltb, le-ltb, eqb-true, eqb-false, eq-eqb, ne-eqb}
+use borrow.Author.Tests.{ltb-true, ltb-false, lt-ltb, eqb-true, eqb-false, eq-eqb, ne-eqb}
 use lib.Arith.{digits-div, digits-mod}
 use lib.Dec.{eqb, ltb}
 use Rattle.laws.specs.Below.{all-at, all-of}
@@ -15,12 +15,12 @@ use Rattle.laws.specs.Only.{first-only}
 use Rattle.laws.specs.declared.Found.{Found}
 use Rattle.laws.specs.declared.Found.the-variants as found
 use Rattle.field.specs.Read.{byteAt}
-use Rattle.field.specs.Name.{sameByte, sameName, rowNamed, findName, namesOk}
+use Rattle.field.specs.Name.{nameBytes, sameByte, sameName, rowNamed, findName, namesOk}
 use Rattle.field.specs.Table.{distinct}
-use Rattle.sheet.specs.Sizes.{contentCount, contentsAt}
+use Rattle.sheet.specs.Sizes.{contentCount, contentBytes, rowName, contentsAt}
 use Rattle.sheet.specs.Rows.{contentRow, targetRow}
 use Rattle.sheet.specs.declared.rows.Target.{Target}
-use Rattle.book.specs.Sizes.{paneCount, materialCount, panesAt, materialsAt}
+use Rattle.book.specs.Sizes.{paneCount, materialCount, paneBytes, materialBytes, panesAt, materialsAt}
 use Rattle.book.specs.Checked.{CheckedBook}
 use Rattle.channel.specs.Channel.{familyOf, paneChannel, materialChannel, paneChannels, materialChannels, channelCount, ofPane, ofMaterial, asPane, asMaterial, paneNamed, materialNamed, contentReach, activeReach, inPane, inMaterial, address, rowChannel, targetChannel}
 use Rattle.channel.specs.Within.{Below, pane-channel-below, material-channel-below, ReachedIn, active-in}
@@ -155,11 +155,11 @@ placed b c l = go (ltb c (paneCount b * paneChannels)) refl
 same-chain : (b : List ℕ) (x y : ℕ) (s : List ℕ) (at : ℕ) → sameName b x s at ≡ true → sameName b y s at ≡ true → sameName b x b y ≡ true
 unfolding sameName sameByte
 same-chain b x y s at p q =
-    all-of 24 (sameByte b x b y)
+    all-of nameBytes (sameByte b x b y)
     (λ k l.
     eq-eqb (byteAt b (x + k)) (byteAt b (y + k))
-    (eqb-true (byteAt b (x + k)) (byteAt s (at + k)) (all-at 24 (sameByte b x s at) k p l) ∙
-    sym (eqb-true (byteAt b (y + k)) (byteAt s (at + k)) (all-at 24 (sameByte b y s at) k q l))))
+    (eqb-true (byteAt b (x + k)) (byteAt s (at + k)) (all-at nameBytes (sameByte b x s at) k p l) ∙
+    sym (eqb-true (byteAt b (y + k)) (byteAt s (at + k)) (all-at nameBytes (sameByte b y s at) k q l))))
 
 -- in a table whose names are distinct, the search for a name is at row i exactly when row i has it
 found-is : (b : List ℕ) (base stride rows : ℕ) (s : List ℕ) (at i : ℕ) → namesOk b base stride rows ≡ true → i < rows → isAt (findName b base stride rows s at) i ≡ sameName b (base + i * stride) s at
@@ -178,20 +178,20 @@ as-material-is found.Nothing m = refl
 
 -- the place of content c's name
 abbrev pub contentNameAt : List ℕ → ℕ → ℕ
-contentNameAt s c = contentsAt s + c * 28 + 4
+contentNameAt s c = contentsAt s + c * contentBytes + rowName
 
 module _ (s : List ℕ) {b : List ℕ} (w : CheckedBook b) (a c : ℕ) (h : c < contentCount s) where
-  pane-named : (p : ℕ) → p < paneCount b → isPane (asPane (paneNamed s b c)) p ≡ sameName b (panesAt + p * 72) s (contentNameAt s c)
+  pane-named : (p : ℕ) → p < paneCount b → isPane (asPane (paneNamed s b c)) p ≡ sameName b (panesAt + p * paneBytes) s (contentNameAt s c)
   unfolding paneNamed
-  pane-named p l = as-pane-is (paneNamed s b c) p ∙ found-is b panesAt 72 (paneCount b) s (contentNameAt s c) p (w .labelled) l
+  pane-named p l = as-pane-is (paneNamed s b c) p ∙ found-is b panesAt paneBytes (paneCount b) s (contentNameAt s c) p (w .labelled) l
 
-  material-named : (m : ℕ) → m < materialCount b → isMaterial (asMaterial (materialNamed s b c)) m ≡ sameName b (materialsAt b + m * 156) s (contentNameAt s c)
+  material-named : (m : ℕ) → m < materialCount b → isMaterial (asMaterial (materialNamed s b c)) m ≡ sameName b (materialsAt b + m * materialBytes) s (contentNameAt s c)
   unfolding materialNamed
-  material-named m l = as-material-is (materialNamed s b c) m ∙ found-is b (materialsAt b) 156 (materialCount b) s (contentNameAt s c) m (w .named) l
+  material-named m l = as-material-is (materialNamed s b c) m ∙ found-is b (materialsAt b) materialBytes (materialCount b) s (contentNameAt s c) m (w .named) l
 
   -- a pane is reached by the contents of the animation, of type Pane or PaneExt, that have its label
   pub pane-reached : (p : ℕ) → p < paneCount b →
-      isPane (activeReach s b a c) p ≡ (eqb (contentRow s c .animation) a && ((eqb (contentRow s c .kind) 0 || eqb (contentRow s c .kind) 3) && sameName b (panesAt + p * 72) s (contentNameAt s c)))
+      isPane (activeReach s b a c) p ≡ (eqb (contentRow s c .animation) a && ((eqb (contentRow s c .kind) 0 || eqb (contentRow s c .kind) 3) && sameName b (panesAt + p * paneBytes) s (contentNameAt s c)))
   unfolding activeReach contentReach
   pane-reached p l = rw (lt-ltb c (contentCount s) h) (go (eqb (contentRow s c .animation) a) (eqb (contentRow s c .kind) 0 || eqb (contentRow s c .kind) 3) (eqb (contentRow s c .kind) 1))
     where
@@ -200,14 +200,14 @@ module _ (s : List ℕ) {b : List ℕ} (w : CheckedBook b) (a c : ℕ) (h : c < 
       none true found.Nothing = refl
       none false o = refl
 
-      go : (x y z : Bool) → isPane (cond x (cond y (asPane (paneNamed s b c)) (cond z (asMaterial (materialNamed s b c)) reached.Nothing)) reached.Nothing) p ≡ (x && (y && sameName b (panesAt + p * 72) s (contentNameAt s c)))
+      go : (x y z : Bool) → isPane (cond x (cond y (asPane (paneNamed s b c)) (cond z (asMaterial (materialNamed s b c)) reached.Nothing)) reached.Nothing) p ≡ (x && (y && sameName b (panesAt + p * paneBytes) s (contentNameAt s c)))
       go true true z = pane-named p l
       go true false z = none z (materialNamed s b c)
       go false y z = refl
 
   -- a material by those of type Material that have its name
   pub material-reached : (m : ℕ) → m < materialCount b →
-      isMaterial (activeReach s b a c) m ≡ (eqb (contentRow s c .animation) a && (eqb (contentRow s c .kind) 1 && sameName b (materialsAt b + m * 156) s (contentNameAt s c)))
+      isMaterial (activeReach s b a c) m ≡ (eqb (contentRow s c .animation) a && (eqb (contentRow s c .kind) 1 && sameName b (materialsAt b + m * materialBytes) s (contentNameAt s c)))
   unfolding activeReach contentReach
   material-reached m l = rw (lt-ltb c (contentCount s) h) (go (eqb (contentRow s c .animation) a) (eqb (contentRow s c .kind) 1) refl)
     where
@@ -221,7 +221,7 @@ module _ (s : List ℕ) {b : List ℕ} (w : CheckedBook b) (a c : ℕ) (h : c < 
 
       go : (x z : Bool) → eqb (contentRow s c .kind) 1 ≡ z →
           isMaterial (cond x (cond (eqb (contentRow s c .kind) 0 || eqb (contentRow s c .kind) 3) (asPane (paneNamed s b c)) (cond z (asMaterial (materialNamed s b c)) reached.Nothing)) reached.Nothing) m ≡
-          (x && (z && sameName b (materialsAt b + m * 156) s (contentNameAt s c)))
+          (x && (z && sameName b (materialsAt b + m * materialBytes) s (contentNameAt s c)))
       go true true e = rw (kinds (contentRow s c .kind) (eqb-true (contentRow s c .kind) 1 e)) (material-named m l)
       go true false e = none (eqb (contentRow s c .kind) 0 || eqb (contentRow s c .kind) 3) (paneNamed s b c)
       go false z e = refl

@@ -32,4 +32,4 @@ slot-exactly slot = go (ltb slot materialLayers) refl
 -- and a target of the texture family addresses the channel of its layer's slot
 pub slot-addressed : (raw slot : ℕ) → slot < materialLayers → materialChannel TexturePattern raw slot ≡ found.At (slotChannel slot)
 unfolding materialChannel
-slot-addressed raw slot l = rw (slot-is slot l, lt-ltb slot materialLayers l)
+slot-addressed raw slot l = rw (lt-ltb slot materialLayers l)

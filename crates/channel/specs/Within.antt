@@ -2,17 +2,18 @@
 use Prim.Native.Nat.{ℕ, _+_, _*_, _%_, _<_}
 use mathlib.Core.List.{List}
 use mathlib.Core.Bool.{Bool, true, false, cond, _||_}
-use mathlib.Core.Path.{_≡_, refl, sym, _∙_}
+use mathlib.Core.Path.{_≡_, refl}
 use native.Mathlib.Omega.{arith}
 use borrow.Author.Tests.{ltb-true, eqb-false}
 use lib.Dec.{eqb, ltb}
 use Rattle.laws.specs.declared.Found.{Found}
 use Rattle.laws.specs.declared.Found.the-variants as found
 use Rattle.field.specs.Table.{found-within}
-use Rattle.sheet.specs.Sizes.{contentCount, contentsAt}
+use Rattle.sheet.specs.Sizes.{contentCount, contentBytes, rowName, contentsAt}
 use Rattle.sheet.specs.Rows.{contentRow, targetRow}
-use Rattle.book.specs.Sizes.{paneCount, materialCount, panesAt, materialsAt}
-use Rattle.channel.specs.Channel.{familyOf, listed, paneChannel, colourPlace, materialChannel, paneChannels, materialChannels, channelCount, ofPane, ofMaterial, asPane, asMaterial, paneNamed, materialNamed, contentReach, activeReach, inPane, inMaterial, address, rowChannel, targetChannel}
+use Rattle.book.specs.Sizes.{paneCount, materialCount, paneBytes, materialBytes, panesAt, materialsAt}
+use Rattle.channel.specs.Channel.{colourVariants, listed, paneChannel, colourPlace, materialChannel, paneChannels, materialChannels, channelCount, ofPane, ofMaterial, asPane, asMaterial, paneNamed, materialNamed, contentReach, activeReach, inPane, inMaterial, address, rowChannel, targetChannel}
+use Rattle.channel.specs.Slot.{slot-below}
 use Rattle.channel.specs.declared.Family.{Family}
 use Rattle.channel.specs.declared.Family.the-variants.{PaneSrt, Visibility, VertexColor, TextureSrt, TexturePattern, IndirectSrt, AlphaCompare, MaterialColor, Other}
 use Rattle.channel.specs.declared.Reached.{Reached}
@@ -70,10 +71,10 @@ material-channel-below Visibility raw layer = nowhere _
 material-channel-below VertexColor raw layer = nowhere _
 material-channel-below TextureSrt raw layer =
     either (ltb layer 3) _ _ _ (λ e. at _ _ (omega (arith, ltb-true layer 3 e, listed-below 5 raw (omega arith)))) (λ e. nowhere _)
-material-channel-below TexturePattern raw layer = either (ltb layer 3) _ _ _ (λ e. at _ _ (omega (arith, ltb-true layer 3 e))) (λ e. nowhere _)
+material-channel-below TexturePattern raw layer = either (ltb layer 3) _ _ _ (λ e. at _ _ (slot-below layer (ltb-true layer 3 e))) (λ e. nowhere _)
 material-channel-below IndirectSrt raw layer = at _ _ (omega (arith, listed-below 3 raw (omega arith)))
 material-channel-below AlphaCompare raw layer = at _ _ (omega arith)
-material-channel-below MaterialColor raw layer = at _ _ (omega (arith, colour-below (listed 28 raw)))
+material-channel-below MaterialColor raw layer = at _ _ (omega (arith, colour-below (listed colourVariants raw)))
 material-channel-below Other raw layer = nowhere _
 
 -- ---- rows of the book
@@ -112,11 +113,11 @@ either-in b false r q h k = k
 
 pane-named-below : (s b : List ℕ) (c : ℕ) → Below (paneNamed s b c) (paneCount b)
 unfolding paneNamed
-pane-named-below s b c = record { below = λ p e. found-within b panesAt 72 (paneCount b) s (contentsAt s + c * 28 + 4) p e }
+pane-named-below s b c = record { below = λ p e. found-within b panesAt paneBytes (paneCount b) s (contentsAt s + c * contentBytes + rowName) p e }
 
 material-named-below : (s b : List ℕ) (c : ℕ) → Below (materialNamed s b c) (materialCount b)
 unfolding materialNamed
-material-named-below s b c = record { below = λ m e. found-within b (materialsAt b) 156 (materialCount b) s (contentsAt s + c * 28 + 4) m e }
+material-named-below s b c = record { below = λ m e. found-within b (materialsAt b) materialBytes (materialCount b) s (contentsAt s + c * contentBytes + rowName) m e }
 
 pub content-in : (s b : List ℕ) (c : ℕ) → ReachedIn b (contentReach s b c)
 unfolding contentReach

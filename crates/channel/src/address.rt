@@ -15,10 +15,20 @@ pub const PANE_CHANNELS: usize = 28;
 
 pub const MATERIAL_CHANNELS: usize = 30;
 
+// A pane's channels after its SRT's ten: whether it is visible, and its alpha; the corner colours follow.
+pub const VISIBLE: usize = 10;
+
+pub const ALPHA: usize = 11;
+
+const CORNER_COLOURS: usize = 12;
+
 // How many layers a material has, each with a texture slot, and the first slot's channel.
 pub const MATERIAL_LAYERS: usize = 3;
 
 const FIRST_TEXTURE: usize = 15;
+
+// How many variants the enum of material colours has.
+const COLOUR_VARIANTS: usize = 28;
 
 // The four letters of a code as one number, little-endian.
 const FLPA: u32 = 0x4150_4c46;
@@ -67,13 +77,13 @@ pub fn pane_channel(f: Family, raw: usize) -> Found
 {
     match f {
         Family::PaneSrt => Found::At(listed(10, raw)),
-        Family::Visibility => Found::At(10),
+        Family::Visibility => Found::At(VISIBLE),
         Family::VertexColor => {
             let i = listed(17, raw);
             if i == 16 {
-                Found::At(11)
+                Found::At(ALPHA)
             } else {
-                Found::At(12 + i)
+                Found::At(CORNER_COLOURS + i)
             }
         }
         _ => Found::Nothing,
@@ -101,14 +111,14 @@ pub fn material_channel(f: Family, raw: usize, layer: usize) -> Found
         }
         Family::TexturePattern => {
             if layer < MATERIAL_LAYERS {
-                Found::At(FIRST_TEXTURE + layer)
+                Found::At(slot_channel(layer as u16) as usize)
             } else {
                 Found::Nothing
             }
         }
         Family::IndirectSrt => Found::At(18 + listed(3, raw)),
         Family::AlphaCompare => Found::At(21),
-        Family::MaterialColor => Found::At(22 + colour_place(listed(28, raw))),
+        Family::MaterialColor => Found::At(22 + colour_place(listed(COLOUR_VARIANTS, raw))),
         _ => Found::Nothing,
     }
 }

@@ -3,9 +3,11 @@ mod address;
 mod place;
 mod reach;
 
+pub use address::ALPHA;
 pub use address::MATERIAL_CHANNELS;
 pub use address::MATERIAL_LAYERS;
 pub use address::PANE_CHANNELS;
+pub use address::VISIBLE;
 pub use address::channel_count;
 pub use address::family_of;
 pub use address::of_material;

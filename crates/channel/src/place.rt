@@ -10,13 +10,13 @@ use sheet::CONTENT_BYTES;
 use sheet::ROW_NAME;
 use sheet::Target;
 ghost use mathlib.Core.Path.{_≡_};
-ghost use Prim.Native.Nat.{ℕ, _<_};
+ghost use Prim.Native.Nat.{_<_};
 ghost use Rattle.laws.specs.Swept.{isAt};
-ghost use Rattle.sheet.specs.Sizes.{contentCount, targetCount};
+ghost use Rattle.sheet.specs.Sizes.{contentCount};
 ghost use Rattle.sheet.specs.Checked.{Checked};
 ghost use Rattle.book.specs.Sizes.{paneCount, materialCount};
 ghost use Rattle.book.specs.Checked.{CheckedBook};
-ghost use Rattle.channel.specs.Channel.{channelCount, activeReach};
+ghost use Rattle.channel.specs.Channel.{activeReach};
 ghost use Rattle.channel.specs.Place.{placeOf, isPane, isMaterial, hits, PlacedIn};
 
 // Where a channel stands: a pane's or a material's row, and its number there.

@@ -6,7 +6,7 @@ use laws::Found;
 use sheet::CONTENT_BYTES;
 use sheet::ROW_NAME;
 ghost use mathlib.Core.Path.{_≡_};
-ghost use Prim.Native.Nat.{ℕ, _<_};
+ghost use Prim.Native.Nat.{_<_};
 ghost use Rattle.sheet.specs.Sizes.{contentCount};
 ghost use Rattle.sheet.specs.Checked.{Checked};
 ghost use Rattle.book.specs.Checked.{CheckedBook};

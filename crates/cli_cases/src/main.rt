@@ -1,8 +1,8 @@
 // First mistakes, and files of every kind, on the command line: each case with a heading, and what it is answered.
-use printed::say;
+use cli_printed::say;
 
 fn say_word(line: &[u8], i: usize) {
-    let word = words::line(line, i);
+    let word = cli_words::line(line, i);
     if word.len() > 0 {
         say(b" ");
         say(word);
@@ -25,7 +25,7 @@ fn heading(line: &[u8]) {
 
 fn case(line: &[u8]) {
     heading(line);
-    console::run(line);
+    cli_console::run(line);
 }
 
 fn usage_cases() {

@@ -1,4 +1,4 @@
 // The command line again, run on a list of calls: every kind of call made, refused, and written wrongly.
 fn main() {
-    console::start();
+    cli_console::start();
 }

@@ -9,9 +9,13 @@ use Rattle.laws.specs.First.{firstBelow}
 use Rattle.laws.specs.declared.Found.{Found}
 use Rattle.field.specs.Read.{byteAt}
 
+-- how many bytes a name has
+abbrev pub nameBytes : ℕ
+nameBytes = 24
+
 -- the name's field at i
 abbrev pub nameAt : List ℕ → ℕ → List ℕ
-nameAt s i = take 24 (drop i s)
+nameAt s i = take nameBytes (drop i s)
 
 -- the k-th bytes of the two fields are the same
 unfoldable pub sameByte : List ℕ → ℕ → List ℕ → ℕ → ℕ → Bool
@@ -19,7 +23,7 @@ sameByte s i t j k = eqb (byteAt s (i + k)) (byteAt t (j + k))
 
 -- the fields at i of s and at j of t hold one name: their 24 bytes are the same
 unfoldable pub sameName : List ℕ → ℕ → List ℕ → ℕ → Bool
-sameName s i t j = allBelow 24 (sameByte s i t j)
+sameName s i t j = allBelow nameBytes (sameByte s i t j)
 
 -- the k-th byte of the field is zero
 unfoldable pub zeroByte : List ℕ → ℕ → ℕ → Bool
@@ -27,7 +31,7 @@ zeroByte s i k = eqb (byteAt s (i + k)) 0
 
 -- the name at i is empty: its 24 bytes are zero
 unfoldable pub emptyName : List ℕ → ℕ → Bool
-emptyName s i = allBelow 24 (zeroByte s i)
+emptyName s i = allBelow nameBytes (zeroByte s i)
 
 -- row i of a table whose first name is at `base`, and the next each `stride` bytes on, has the name at j of t
 unfoldable pub rowNamed : List ℕ → ℕ → ℕ → List ℕ → ℕ → ℕ → Bool
@@ -51,4 +55,4 @@ namesOk s base stride rows = allBelow rows (nameOk s base stride)
 
 -- the fields of the table's names lie within s
 pub record Fields (s : List ℕ) (base stride rows : ℕ) : Type 0 where
-  pub within : (i : ℕ) → i < rows → base + i * stride + 24 ≤ length s
+  pub within : (i : ℕ) → i < rows → base + i * stride + nameBytes ≤ length s

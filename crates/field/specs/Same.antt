@@ -1,36 +1,36 @@
 -- What it means that two fields hold one name: the fields are equal, and so are the names in them, whose zero bytes at the end don't count
 -- (document 01, "Sheet and book"). Assumes nothing.
-use Prim.Native.Nat.{ℕ, zero, suc, _+_, _<_, _≤_}
+use Prim.Native.Nat.{ℕ, _+_, _<_, _≤_}
 use mathlib.Core.List.{List, [], _∷_}
 use mathlib.Core.Bool.{Bool, true, false, cond}
 use mathlib.Core.Path.{_≡_, refl, sym, _∙_, ap}
 use native.Mathlib.Nat.{suc-inj}
 use native.Mathlib.Omega.{arith}
-use borrow.Author.Tests.{eq-eqb, eqb-true, eqb-false}
+use borrow.Author.Tests.{eq-eqb, eqb-true}
 use lib.Dec.{eqb}
-use lib.ListN.{length, getD, take, drop, length-take, length-drop}
+use lib.ListN.{length, getD, length-take, length-drop}
 use lib.Seq.{getD-take, getD-drop, ext-getD}
-use Rattle.laws.specs.Below.{allBelow, all-at, all-of}
+use Rattle.laws.specs.Below.{all-at, all-of}
 use Rattle.field.specs.Read.{byteAt}
-use Rattle.field.specs.Name.{nameAt, sameByte, sameName}
+use Rattle.field.specs.Name.{nameBytes, nameAt, sameByte, sameName}
 
-byte-of : (s : List ℕ) (i k : ℕ) → k < 24 → getD (nameAt s i) k 0 ≡ byteAt s (i + k)
+byte-of : (s : List ℕ) (i k : ℕ) → k < nameBytes → getD (nameAt s i) k 0 ≡ byteAt s (i + k)
 byte-of s i k l = rw (getD-take, getD-drop)
 
-long : (s : List ℕ) (i : ℕ) → i + 24 ≤ length s → length (nameAt s i) ≡ 24
+long : (s : List ℕ) (i : ℕ) → i + nameBytes ≤ length s → length (nameAt s i) ≡ nameBytes
 long s i h = simp (length-take, length-drop) (omega arith)
 
 -- the equations that a reader expects: one name exactly when the 24 bytes are the same
-pub same-field : (s : List ℕ) (i : ℕ) (t : List ℕ) (j : ℕ) → i + 24 ≤ length s → j + 24 ≤ length t → sameName s i t j ≡ true → nameAt s i ≡ nameAt t j
+pub same-field : (s : List ℕ) (i : ℕ) (t : List ℕ) (j : ℕ) → i + nameBytes ≤ length s → j + nameBytes ≤ length t → sameName s i t j ≡ true → nameAt s i ≡ nameAt t j
 unfolding sameName sameByte
 same-field s i t j h k e =
     ext-getD 0 (nameAt s i) (nameAt t j) (long s i h ∙ sym (long t j k))
-    (λ n l. let m : n < 24 = omega (arith, long s i h) in byte-of s i n m ∙ eqb-true (byteAt s (i + n)) (byteAt t (j + n)) (all-at 24 (sameByte s i t j) n e m) ∙ sym (byte-of t j n m))
+    (λ n l. let m : n < nameBytes = omega (arith, long s i h) in byte-of s i n m ∙ eqb-true (byteAt s (i + n)) (byteAt t (j + n)) (all-at nameBytes (sameByte s i t j) n e m) ∙ sym (byte-of t j n m))
 
 pub field-same : (s : List ℕ) (i : ℕ) (t : List ℕ) (j : ℕ) → nameAt s i ≡ nameAt t j → sameName s i t j ≡ true
 unfolding sameName sameByte
 field-same s i t j e =
-    all-of 24 (sameByte s i t j)
+    all-of nameBytes (sameByte s i t j)
     (λ n l. eq-eqb (byteAt s (i + n)) (byteAt t (j + n)) (sym (byte-of s i n l) ∙ ap (λ (f : List ℕ). getD f n 0) e ∙ byte-of t j n l))
 
 -- ---- the name in a field: its bytes up to the last that is not zero

@@ -2,16 +2,16 @@
 use Prim.Native.Nat.{ℕ, _+_, _*_, _<_}
 use mathlib.Core.List.{List}
 use mathlib.Core.Bool.{Bool, true, false, not}
-use mathlib.Core.Path.{_≡_, refl, sym, _∙_}
+use mathlib.Core.Path.{_≡_, refl, sym}
 use native.Mathlib.Omega.{arith}
 use borrow.Author.Tests.{eq-eqb, ne-eqb, eqb-true, eqb-false, ltb-true, ltb-false, not-true}
 use lib.Dec.{eqb, ltb}
 use Rattle.laws.specs.Tests.{both}
-use Rattle.laws.specs.Below.{allBelow, all-at, all-same}
+use Rattle.laws.specs.Below.{all-at, all-same}
 use Rattle.laws.specs.First.{first-within, first-holds}
 use Rattle.laws.specs.declared.Found.the-variants.{At}
 use Rattle.field.specs.Read.{byteAt}
-use Rattle.field.specs.Name.{sameByte, sameName, emptyName, otherName, nameOk, namesOk, rowNamed, findName}
+use Rattle.field.specs.Name.{nameBytes, sameByte, sameName, emptyName, otherName, nameOk, namesOk, rowNamed, findName}
 
 -- what is found is one of the rows, and has the name
 pub found-within : (s : List ℕ) (base stride rows : ℕ) (t : List ℕ) (j i : ℕ) → findName s base stride rows t j ≡ At i → i < rows
@@ -31,7 +31,7 @@ eqb-turned a b = go (eqb b a) refl
 
 pub same-turned : (s : List ℕ) (i : ℕ) (t : List ℕ) (j : ℕ) → sameName s i t j ≡ sameName t j s i
 unfolding sameName sameByte
-same-turned s i t j = all-same 24 (sameByte s i t j) (sameByte t j s i) (λ k l. eqb-turned (byteAt s (i + k)) (byteAt t (j + k)))
+same-turned s i t j = all-same nameBytes (sameByte s i t j) (sameByte t j s i) (λ k l. eqb-turned (byteAt s (i + k)) (byteAt t (j + k)))
 
 module _ (s : List ℕ) (base stride rows : ℕ) (h : namesOk s base stride rows ≡ true) where
   row-ok : (i : ℕ) → i < rows → nameOk s base stride i ≡ true

@@ -10,7 +10,7 @@ use lib.Arith.{digits-div, digits-mod}
 use lib.Dec.{eqb, ltb}
 use Rattle.laws.specs.Below.{allBelow, all-at, all-of, Passed}
 use Rattle.field.specs.Read.{byteAt, u16At, u32At}
-use Rattle.field.specs.Name.{sameByte, sameName}
+use Rattle.field.specs.Name.{nameBytes, sameByte, sameName}
 
 -- the eight bytes at i
 unfoldable pub wordAt : List ℕ → ℕ → ℕ
@@ -69,26 +69,30 @@ module _ (s t : List ℕ) (b : Bytes s) (d : Bytes t) where
   unfolding sameByte allBelow
   word-bytes i j = simp (same-64, same-32, same-16, and-assoc, add-assoc, add-zero)
 
-  -- byte m of the fields, as a byte of the words that start at byte k
-  byte-past : (i j k m : ℕ) → k ≤ m → sameByte s (i + k) t (j + k) (m - k) ≡ sameByte s i t j m
+  -- a search that compares the first and the last eight bytes at once: where either differ the name is another, and where the first are the same
+  -- it has passed eight
+  pub first-word : (i j : ℕ) → eqb (wordAt s i) (wordAt t j) ≡ true → Passed nameBytes (sameByte s i t j) 8
+  first-word i j e = record { within = omega arith; all = sym (word-bytes i j) ∙ e }
+
+  pub other-first : (i j : ℕ) → eqb (wordAt s i) (wordAt t j) ≡ false → sameName s i t j ≡ false
+  other-first i j e = rw (same-words i j, e)
+
+  pub other-last : (i j : ℕ) → eqb (wordAt s (i + 16)) (wordAt t (j + 16)) ≡ false → sameName s i t j ≡ false
+  other-last i j e = rw (same-words i j, e) (none (eqb (wordAt s i) (wordAt t j)) (eqb (wordAt s (i + 8)) (wordAt t (j + 8))))
+    where
+      none : (x y : Bool) → (x && (y && false)) ≡ false
+      none true true = refl
+      none true false = refl
+      none false y = refl
+
+  -- and where the last are the same and the bytes before them have passed, it is the name
+  pub ends-same : (i j k : ℕ) → Passed nameBytes (sameByte s i t j) k → 16 ≤ k → eqb (wordAt s (i + 16)) (wordAt t (j + 16)) ≡ true → allBelow nameBytes (sameByte s i t j) ≡ true
   unfolding sameByte
-  byte-past i j k m l = let p : i + k + (m - k) ≡ i + m = omega arith in let q : j + k + (m - k) ≡ j + m = omega arith in rw (p, q)
-
-  -- a search that goes eight bytes a step: one step more, and a step that meets another name
-  pub passed-word : (i j k : ℕ) → Passed 24 (sameByte s i t j) k → k + 8 ≤ 24 → eqb (wordAt s (i + k)) (wordAt t (j + k)) ≡ true → Passed 24 (sameByte s i t j) (k + 8)
-  passed-word i j k h l e = record { within = l; all = all-of (k + 8) (sameByte s i t j) (λ m n. go m n (ltb m k) refl) }
+  ends-same i j k p l e = all-of nameBytes (sameByte s i t j) (λ m h. go m h (ltb m 16) refl)
     where
-      go : (m : ℕ) → m < k + 8 → (x : Bool) → ltb m k ≡ x → sameByte s i t j m ≡ true
-      go m n true q = all-at k (sameByte s i t j) m (h .all) (ltb-true m k q)
-      go m n false q = let g = ltb-false m k q in sym (byte-past i j k m g) ∙ all-at 8 (sameByte s (i + k) t (j + k)) (m - k) (sym (word-bytes (i + k) (j + k)) ∙ e) (omega arith)
-
-  pub other-word : (i j k : ℕ) → k + 8 ≤ 24 → eqb (wordAt s (i + k)) (wordAt t (j + k)) ≡ false → sameName s i t j ≡ false
-  unfolding sameName
-  other-word i j k l e = go (allBelow 24 (sameByte s i t j)) refl
-    where
-      same : allBelow 24 (sameByte s i t j) ≡ true → (m : ℕ) → m < 8 → sameByte s (i + k) t (j + k) m ≡ true
-      same h m n = let z : k + m - k ≡ m = omega arith in (rw z at (byte-past i j k (k + m) (omega arith))) ∙ all-at 24 (sameByte s i t j) (k + m) h (omega arith)
-
-      go : (x : Bool) → allBelow 24 (sameByte s i t j) ≡ x → x ≡ false
-      go true h = let w = all-of 8 (sameByte s (i + k) t (j + k)) (same h) in let v = word-bytes (i + k) (j + k) in cc
-      go false h = refl
+      go : (m : ℕ) → m < nameBytes → (b : Bool) → ltb m 16 ≡ b → sameByte s i t j m ≡ true
+      go m h true q = all-at k (sameByte s i t j) m (p .all) (omega (arith, ltb-true m 16 q))
+      go m h false q =
+          let x : i + 16 + (m - 16) ≡ i + m = omega (arith, ltb-false m 16 q) in
+          let y : j + 16 + (m - 16) ≡ j + m = omega (arith, ltb-false m 16 q) in
+          rw (x, y) at (all-at 8 (sameByte s (i + 16) t (j + 16)) (m - 16) (sym (word-bytes (i + 16) (j + 16)) ∙ e) (omega (arith, ltb-false m 16 q)))

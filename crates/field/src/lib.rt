@@ -2,10 +2,10 @@
 use laws::Found;
 ghost use mathlib.Core.Path.{_≡_};
 ghost use mathlib.Core.Bool.{true};
-ghost use Prim.Native.Nat.{ℕ, _+_, _-_, _*_, _<_, _≤_};
+ghost use Prim.Native.Nat.{_+_, _-_, _*_, _<_, _≤_};
 ghost use lib.ListN.{length};
 ghost use Rattle.field.specs.Read.{byteAt, u16At, u32At, floatAt, finiteAt, finiteRow};
-ghost use Rattle.field.specs.Name.{nameAt, sameName, zeroByte, emptyName, otherName, nameOk, namesOk, findName, Fields};
+ghost use Rattle.field.specs.Name.{nameBytes, nameAt, sameName, zeroByte, emptyName, otherName, nameOk, namesOk, findName, Fields};
 ghost use Rattle.field.specs.Word.{wordAt};
 ghost use Rattle.laws.specs.Below.{allBelow};
 
@@ -69,11 +69,14 @@ pub fn finite_row(s: &[u8], at: usize, n: usize) -> bool
 
 // ---- names
 
+// How many bytes a name has.
+pub const NAME_BYTES: usize = 24;
+
 pub fn name_at<'a>(s: &'a [u8], at: usize) -> &'a [u8]
-    requires { ⌜ at + 24 ≤ length (now s) ⌝ }
+    requires { ⌜ at + nameBytes ≤ length (now s) ⌝ }
     ensures { λ r. ⌜ now r ≡ nameAt (now (s .entry)) at ⌝ }
 {
-    &s[at..at + 24]
+    &s[at..at + NAME_BYTES]
 }
 
 fn zero_byte(s: &[u8], at: usize, k: usize) -> bool
@@ -84,11 +87,11 @@ fn zero_byte(s: &[u8], at: usize, k: usize) -> bool
 }
 
 pub fn empty_name(s: &[u8], at: usize) -> bool
-    requires { ⌜ at + 24 ≤ length (now s) ⌝ }
+    requires { ⌜ at + nameBytes ≤ length (now s) ⌝ }
     ensures { λ r. ⌜ r ≡ emptyName (now (s .entry)) at ⌝ }
 {
     let mut k = 0;
-    while k < 24 {
+    while k < NAME_BYTES {
         if zero_byte(s, at, k) {
             k += 1;
         } else {
@@ -108,7 +111,7 @@ fn word_at(s: &[u8], at: usize) -> u64
 
 // Whether two fields hold one name.
 pub fn same_name(s: &[u8], i: usize, t: &[u8], j: usize) -> bool
-    requires { ⌜ (i + 24 ≤ length (now s)) × (j + 24 ≤ length (now t)) ⌝ }
+    requires { ⌜ (i + nameBytes ≤ length (now s)) × (j + nameBytes ≤ length (now t)) ⌝ }
     ensures { λ r. ⌜ r ≡ sameName (now (s .entry)) i (now (t .entry)) j ⌝ }
 {
     if word_at(s, i) != word_at(t, j) {
@@ -159,8 +162,8 @@ pub fn names_ok(s: &[u8], base: usize, stride: usize, rows: usize) -> bool
 }
 
 // The first row of a table of names that has the name at `at` of another slice: the labelled search that stands for a HashMap.
-// The bytes go eight a step, since labels often begin alike.
-// `next` is counted at the head, so that a mismatch only leaves the row.
+// `next` is counted at the head, so that a mismatch only leaves the row. Eight bytes at each end are one comparison each, which most rows fail; the
+// bytes between are compared one by one.
 pub fn find_name(
     table: &[u8],
     base: usize,
@@ -169,22 +172,30 @@ pub fn find_name(
     names: &[u8],
     at: usize,
 ) -> Found
-    requires { ⌜ Fields (now table) base stride rows × (at + 24 ≤ length (now names)) ⌝ }
+    requires { ⌜ Fields (now table) base stride rows × (at + nameBytes ≤ length (now names)) ⌝ }
     ensures { λ r. ⌜ r ≡ findName (now (table .entry)) base stride rows (now (names .entry)) at ⌝ }
 {
+    let mut found = Found::Nothing;
     let mut next = 0;
     'rows: while next < rows {
         let i = next;
         next += 1;
         let place = base + i * stride;
-        let mut k = 0;
-        'bytes: while k < 24 {
-            if word_at(table, place + k) != word_at(names, at + k) {
+        if word_at(table, place) != word_at(names, at) {
+            continue 'rows;
+        }
+        if word_at(table, place + 16) != word_at(names, at + 16) {
+            continue 'rows;
+        }
+        let mut k = 8;
+        'bytes: while k < 16 {
+            if table[place + k] != names[at + k] {
                 continue 'rows;
             }
-            k += 8;
+            k += 1;
         }
-        return Found::At(i);
+        found = Found::At(i);
+        break 'rows;
     }
-    Found::Nothing
+    found
 }

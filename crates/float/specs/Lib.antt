@@ -6,6 +6,7 @@ pub mod Whole
 pub mod StepValue
 pub mod Turn
 pub mod SinCos
+pub mod Vector
 pub mod Rising
 -- Laws on them, which other crates cite.
 pub mod Bits

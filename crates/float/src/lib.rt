@@ -1,10 +1,18 @@
 // Standard arithmetic on f32, bit for bit (document 01, "Standard arithmetic"): what Rust's f32 has and Rattle's lacks.
 // Every function is total: no value of an argument is ruled out, and a NaN is answered as the Rust answers it.
 mod turn;
+mod vector;
 
 pub use turn::SinCos;
+pub use turn::angle_passes;
 pub use turn::radians;
 pub use turn::sin_cos;
+pub use vector::Srt;
+pub use vector::Vector2;
+pub use vector::Vector3;
+pub use vector::add;
+pub use vector::is_finite2;
+pub use vector::is_finite3;
 ghost use mathlib.Core.Path.{_≡_};
 ghost use mathlib.Core.Bool.{false};
 ghost use Prim.Native.Nat.{min};

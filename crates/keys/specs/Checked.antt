@@ -1,8 +1,8 @@
 -- What checked keys tell: a record whose fields `omega` reads, and the key rules track by track. Assumes nothing.
-use Prim.Native.Nat.{ℕ, _+_, _<_, _≤_}
+use Prim.Native.Nat.{ℕ, _+_, _<_}
 use mathlib.Core.List.{List}
 use mathlib.Core.Bool.{Bool, true, false, cond, _&&_}
-use mathlib.Core.Path.{_≡_, refl, sym, _∙_}
+use mathlib.Core.Path.{_≡_}
 use borrow.Author.Tests.{eq-eqb, ne-eqb}
 use native.Mathlib.Omega.{arith}
 use lib.Dec.{leb, eqb}
@@ -16,8 +16,9 @@ use Rattle.float.specs.StepValue.{wholeIn16}
 use Rattle.sheet.specs.Sizes.{targetCount, keyCount}
 use Rattle.sheet.specs.Rows.{targetRow}
 use Rattle.sheet.specs.Checked.{Checked, target-keys}
-use Rattle.keys.specs.Rules.{constant, step, finiteKey, constantKey, stepKey, curveOk, trackOk}
-use Rattle.keys.specs.Keys.{keysFit, heldTrack, keysOk, Fit, fit}
+use Rattle.curve.specs.Curve.{kindConstant, kindStep}
+use Rattle.keys.specs.Rules.{finiteKey, constantKey, stepKey, curveOk, trackOk}
+use Rattle.keys.specs.Keys.{keysFit, heldTrack, keysOk, fit}
 
 pub record KeysChecked (s : List ℕ) (fs vs ss : List Float) : Type 0 where
   pub frames : length fs ≡ keyCount s
@@ -45,17 +46,17 @@ keys-checked s fs vs ss e =
 
 -- ---- what a curve's rule says of its kind
 module _ (fs vs ss : List Float) (first count : ℕ) where
-  constant-rule : (curve : ℕ) → curve ≡ constant → curveOk curve fs vs ss first count ≡ true → allBelow count (constantKey fs ss first) ≡ true
+  constant-rule : (curve : ℕ) → curve ≡ kindConstant → curveOk curve fs vs ss first count ≡ true → allBelow count (constantKey fs ss first) ≡ true
   unfolding curveOk
-  constant-rule curve e h = rw (eq-eqb curve constant e) at h
+  constant-rule curve e h = rw (eq-eqb curve kindConstant e) at h
 
-  step-rule : (curve : ℕ) → curve ≡ step → curveOk curve fs vs ss first count ≡ true → allBelow count (stepKey vs ss first) ≡ true
+  step-rule : (curve : ℕ) → curve ≡ kindStep → curveOk curve fs vs ss first count ≡ true → allBelow count (stepKey vs ss first) ≡ true
   unfolding curveOk
   step-rule curve e h = and-1 _ (risingIn fs first count) (rw e at h)
 
-  pub rising-rule : (curve : ℕ) → (curve ≡ constant → ⊥) → curveOk curve fs vs ss first count ≡ true → risingIn fs first count ≡ true
+  pub rising-rule : (curve : ℕ) → (curve ≡ kindConstant → ⊥) → curveOk curve fs vs ss first count ≡ true → risingIn fs first count ≡ true
   unfolding curveOk
-  rising-rule curve n h = go (eqb curve step) (rw (ne-eqb curve constant n) at h)
+  rising-rule curve n h = go (eqb curve kindStep) (rw (ne-eqb curve kindConstant n) at h)
     where
       go : (b : Bool) → cond b (allBelow count (stepKey vs ss first) && risingIn fs first count) (risingIn fs first count) ≡ true → risingIn fs first count ≡ true
       go true k = and-2 (allBelow count (stepKey vs ss first)) _ k
@@ -88,27 +89,27 @@ module _ {s : List ℕ} {fs vs ss : List Float} (w : KeysChecked s fs vs ss) whe
     at = targetRow s t .first + i
 
     -- Constant: frame and slope are +0
-    pub constant-frame : targetRow s t .curve ≡ constant → sameBits (getD fs at nan) zero' ≡ true
+    pub constant-frame : targetRow s t .curve ≡ kindConstant → sameBits (getD fs at nan) zero' ≡ true
     unfolding constantKey
     constant-frame e = and-1 _ (sameBits (getD ss at nan) zero') (all-at _ (constantKey fs ss (targetRow s t .first)) i (constant-rule fs vs ss _ _ _ e (track-ok t l)) m)
 
-    pub constant-slope : targetRow s t .curve ≡ constant → sameBits (getD ss at nan) zero' ≡ true
+    pub constant-slope : targetRow s t .curve ≡ kindConstant → sameBits (getD ss at nan) zero' ≡ true
     unfolding constantKey
     constant-slope e = and-2 (sameBits (getD fs at nan) zero') _ (all-at _ (constantKey fs ss (targetRow s t .first)) i (constant-rule fs vs ss _ _ _ e (track-ok t l)) m)
 
     -- Step: slope +0, value whole in 0..65,535, not -0
-    pub step-slope : targetRow s t .curve ≡ step → sameBits (getD ss at nan) zero' ≡ true
+    pub step-slope : targetRow s t .curve ≡ kindStep → sameBits (getD ss at nan) zero' ≡ true
     unfolding stepKey
     step-slope e = and-1 _ (wholeIn16 (getD vs at nan)) (all-at _ (stepKey vs ss (targetRow s t .first)) i (step-rule fs vs ss _ _ _ e (track-ok t l)) m)
 
-    pub step-whole : targetRow s t .curve ≡ step → wholeIn16 (getD vs at nan) ≡ true
+    pub step-whole : targetRow s t .curve ≡ kindStep → wholeIn16 (getD vs at nan) ≡ true
     unfolding stepKey
     step-whole e = and-2 (sameBits (getD ss at nan) zero') _ (all-at _ (stepKey vs ss (targetRow s t .first)) i (step-rule fs vs ss _ _ _ e (track-ok t l)) m)
 
   -- Step and Hermite: frames never fall, in the lists and in the part that the track owns
-  pub track-rising : (t : ℕ) → t < targetCount s → (targetRow s t .curve ≡ constant → ⊥) → risingIn fs (targetRow s t .first) (targetRow s t .count) ≡ true
+  pub track-rising : (t : ℕ) → t < targetCount s → (targetRow s t .curve ≡ kindConstant → ⊥) → risingIn fs (targetRow s t .first) (targetRow s t .count) ≡ true
   track-rising t l n = rising-rule fs vs ss _ _ _ n (track-ok t l)
 
-  pub part-never-falls : Checked s → (t : ℕ) → t < targetCount s → (targetRow s t .curve ≡ constant → ⊥)
+  pub part-never-falls : Checked s → (t : ℕ) → t < targetCount s → (targetRow s t .curve ≡ kindConstant → ⊥)
       → rising (take (targetRow s t .count) (drop (targetRow s t .first) fs)) ≡ true
   part-never-falls c t l n = part-rising fs (targetRow s t .first) (targetRow s t .count) (omega (arith, target-keys c t l)) (track-rising t l n)

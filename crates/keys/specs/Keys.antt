@@ -1,10 +1,10 @@
 -- Whether lent lists are keys of a sheet: row 4 of the table in document 01, "What a call declines". The test is total: it holds of any list of
 -- bytes and any three lists of floats, so it also asks what rows 1 and 3 ask, as far as it needs that to look at the keys. Of a checked sheet
 -- with lists as long as it says it is the key rules themselves (`keys-are`). Assumes nothing.
-use Prim.Native.Nat.{ℕ, _+_, _*_, _<_, _≤_}
+use Prim.Native.Nat.{ℕ, _+_, _<_, _≤_}
 use mathlib.Core.List.{List}
 use mathlib.Core.Bool.{Bool, true, false, _&&_}
-use mathlib.Core.Path.{_≡_, refl, sym, _∙_, ap}
+use mathlib.Core.Path.{_≡_, ap}
 use native.Mathlib.Omega.{arith}
 use borrow.Author.Tests.{leb-true, eqb-true, le-leb, lt-leb, eq-eqb}
 use lib.Dec.{leb, eqb}
@@ -12,7 +12,7 @@ use lib.ListN.{length}
 use lib.Ieee.{Float}
 use Rattle.laws.specs.Tests.{both}
 use Rattle.laws.specs.Below.{allBelow, all-same}
-use Rattle.sheet.specs.Sizes.{animationCount, contentCount, targetCount, keyCount, textureCount}
+use Rattle.sheet.specs.Sizes.{targetCount, keyCount, headBytes, sheetBytes}
 use Rattle.sheet.specs.Rows.{targetRow}
 use Rattle.sheet.specs.Sheet.{lengthOk}
 use Rattle.sheet.specs.Checked.{Checked, length-known, target-keys}
@@ -20,7 +20,7 @@ use Rattle.keys.specs.Rules.{finiteKey, curveOk, trackOk, keyRules}
 
 -- s is as long as its sizes say, and the lists are K long
 unfoldable pub keysFit : List ℕ → List Float → List Float → List Float → Bool
-keysFit s fs vs ss = leb 12 (length s) && lengthOk s && eqb (length fs) (keyCount s) && eqb (length vs) (keyCount s) && eqb (length ss) (keyCount s)
+keysFit s fs vs ss = leb headBytes (length s) && lengthOk s && eqb (length fs) (keyCount s) && eqb (length vs) (keyCount s) && eqb (length ss) (keyCount s)
 
 -- the keys of track t are among the K, and keep their rules
 unfoldable pub heldTrack : List ℕ → List Float → List Float → List Float → ℕ → Bool
@@ -41,8 +41,8 @@ module _ (s : List ℕ) (fs vs ss : List Float) (t first count : ℕ) (f : first
 
 -- what `keysFit` tells, for `omega`
 pub record Fit (s : List ℕ) (fs vs ss : List Float) : Type 0 where
-  pub sized : 12 ≤ length s
-  pub long : length s ≡ 12 + animationCount s * 28 + contentCount s * 28 + targetCount s * 14 + textureCount s * 24 + keyCount s * 12
+  pub sized : headBytes ≤ length s
+  pub long : length s ≡ sheetBytes s
   pub frames : length fs ≡ keyCount s
   pub values : length vs ≡ keyCount s
   pub slopes : length ss ≡ keyCount s
@@ -53,9 +53,9 @@ fit s fs vs ss e =
     let z = both _ _ e in
     let v = both _ _ (z .0) in
     let f = both _ _ (v .0) in
-    let l = both (leb 12 (length s)) (lengthOk s) (f .0) in
+    let l = both (leb headBytes (length s)) (lengthOk s) (f .0) in
     record {
-      sized = leb-true 12 (length s) (l .0);
+      sized = leb-true headBytes (length s) (l .0);
       long = length-known s (l .1);
       frames = eqb-true (length fs) (keyCount s) (f .1);
       values = eqb-true (length vs) (keyCount s) (v .1);
@@ -67,7 +67,7 @@ module _ {s : List ℕ} (w : Checked s) (fs vs ss : List Float) (f : length fs �
   pub keys-are : keysOk s fs vs ss ≡ keyRules s fs vs ss
   unfolding keysOk keysFit keyRules lengthOk
   keys-are =
-      rw (le-leb 12 (length s) (omega arith), eq-eqb (length s) _ (w .long), eq-eqb (length fs) (keyCount s) f, eq-eqb (length vs) (keyCount s) v, eq-eqb (length ss) (keyCount s) z)
+      rw (le-leb headBytes (length s) (omega arith), eq-eqb (length s) _ (w .long), eq-eqb (length fs) (keyCount s) f, eq-eqb (length vs) (keyCount s) v, eq-eqb (length ss) (keyCount s) z)
       (ap (λ (b : Bool). allBelow (keyCount s) (finiteKey fs vs ss) && b) (all-same (targetCount s) (heldTrack s fs vs ss) (trackOk s fs vs ss) held))
     where
       held : (t : ℕ) → t < targetCount s → heldTrack s fs vs ss t ≡ trackOk s fs vs ss t

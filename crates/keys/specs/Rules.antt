@@ -2,7 +2,7 @@
 use Prim.Native.Nat.{ℕ, _+_, _-_}
 use mathlib.Core.List.{List}
 use mathlib.Core.Bool.{Bool, true, false, cond, _&&_}
-use mathlib.Core.Path.{_≡_, refl, sym, _∙_}
+use mathlib.Core.Path.{_≡_, refl, _∙_}
 use lib.Dec.{eqb}
 use lib.ListN.{getD}
 use lib.Ieee.{Float, nan, le}
@@ -12,13 +12,7 @@ use Rattle.float.specs.Rising.{notBelow, risingIn}
 use Rattle.float.specs.StepValue.{wholeIn16}
 use Rattle.sheet.specs.Sizes.{targetCount, keyCount}
 use Rattle.sheet.specs.Rows.{targetRow}
-
--- the curves with rules of their own; the third is Hermite
-abbrev pub constant : ℕ
-constant = 0
-
-abbrev pub step : ℕ
-step = 1
+use Rattle.curve.specs.Curve.{kindConstant, kindStep}
 
 -- key i: all finite
 unfoldable pub finiteKey : List Float → List Float → List Float → ℕ → Bool
@@ -35,8 +29,8 @@ stepKey vs ss first i = sameBits (getD ss (first + i) nan) zero' && wholeIn16 (g
 -- the keys of one curve, `count` from `first` on. Step and Hermite: frames never fall within a curve
 unfoldable pub curveOk : ℕ → List Float → List Float → List Float → ℕ → ℕ → Bool
 curveOk curve fs vs ss first count =
-    cond (eqb curve constant) (allBelow count (constantKey fs ss first))
-    (cond (eqb curve step) (allBelow count (stepKey vs ss first) && risingIn fs first count)
+    cond (eqb curve kindConstant) (allBelow count (constantKey fs ss first))
+    (cond (eqb curve kindStep) (allBelow count (stepKey vs ss first) && risingIn fs first count)
     (risingIn fs first count))
 
 -- the keys of track t: a track is a target's row
@@ -51,8 +45,8 @@ keyRules s fs vs ss = allBelow (keyCount s) (finiteKey fs vs ss) && allBelow (ta
 -- the rule on one key, with the frame before it (its own, if it is its curve's first)
 unfoldable pub keyRule : ℕ → Float → Float → Float → Float → Bool
 keyRule curve before frame value slope =
-    cond (eqb curve constant) (sameBits frame zero' && sameBits slope zero')
-    (cond (eqb curve step) (sameBits slope zero' && wholeIn16 value && le before frame)
+    cond (eqb curve kindConstant) (sameBits frame zero' && sameBits slope zero')
+    (cond (eqb curve kindStep) (sameBits slope zero' && wholeIn16 value && le before frame)
     (le before frame))
 
 -- key i of a curve whose keys start at `first`
@@ -62,9 +56,9 @@ keyOk curve fs vs ss first i =
 
 pub curve-by-key : (curve : ℕ) (fs vs ss : List Float) (first count : ℕ) → curveOk curve fs vs ss first count ≡ allBelow count (keyOk curve fs vs ss first)
 unfolding curveOk keyOk keyRule risingIn notBelow constantKey stepKey
-curve-by-key curve fs vs ss first count = go (eqb curve constant) refl (eqb curve step) refl
+curve-by-key curve fs vs ss first count = go (eqb curve kindConstant) refl (eqb curve kindStep) refl
   where
-    go : (a : Bool) → eqb curve constant ≡ a → (b : Bool) → eqb curve step ≡ b →
+    go : (a : Bool) → eqb curve kindConstant ≡ a → (b : Bool) → eqb curve kindStep ≡ b →
         cond a (allBelow count (constantKey fs ss first)) (cond b (allBelow count (stepKey vs ss first) && risingIn fs first count) (risingIn fs first count)) ≡
         allBelow count (keyOk curve fs vs ss first)
     go true e b f = all-same count _ _ (λ i l. rw e)

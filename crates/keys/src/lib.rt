@@ -7,5 +7,5 @@ pub use load::lent_refusal;
 pub use load::load_keys;
 pub use load::load_refusal;
 pub use rules::curve_ok;
+pub use rules::key_rule;
 pub use rules::keys_ok;
-pub use stored::key_rule;

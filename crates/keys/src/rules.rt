@@ -1,15 +1,18 @@
 // Whether three lent lists are keys of a sheet: row 4 of the table of refusals.
 // The loops over keys have no early way out: they then go several keys at a time.
+use curve::CONSTANT;
+use curve::Key;
+use curve::STEP;
 use float::is_finite;
 use float::is_whole16;
 use float::same_bits;
 ghost use mathlib.Core.Path.{_≡_};
-ghost use Prim.Native.Nat.{ℕ, _+_, _-_, _*_, _<_, _≤_};
+ghost use Prim.Native.Nat.{_+_, _-_, _*_, _<_, _≤_};
 ghost use lib.ListN.{length};
 ghost use Rattle.laws.specs.Below.{allBelow};
 ghost use Rattle.float.specs.Rising.{risingIn};
-ghost use Rattle.sheet.specs.Sizes.{keyCount, targetCount, targetsAt};
-ghost use Rattle.keys.specs.Rules.{finiteKey, constantKey, stepKey, curveOk};
+ghost use Rattle.sheet.specs.Sizes.{targetCount, targetsAt};
+ghost use Rattle.keys.specs.Rules.{finiteKey, constantKey, stepKey, curveOk, keyRule};
 ghost use Rattle.keys.specs.Keys.{keysFit, heldTrack, keysOk, Fit};
 
 fn finite_keys(frames: &[f32], values: &[f32], slopes: &[f32]) -> bool
@@ -81,13 +84,26 @@ pub fn curve_ok(
     requires { ⌜ (first + count ≤ length (now frames)) × ((first + count ≤ length (now values)) × (first + count ≤ length (now slopes))) ⌝ }
     ensures { λ r. ⌜ r ≡ curveOk curve (now (frames .entry)) (now (values .entry)) (now (slopes .entry)) first count ⌝ }
 {
-    if curve == 0 {
+    if curve == (CONSTANT as usize) {
         return constant_keys(frames, slopes, first, count);
     }
-    if curve == 1 {
+    if curve == (STEP as usize) {
         return step_keys(values, slopes, first, count) & rising_keys(frames, first, count);
     }
     rising_keys(frames, first, count)
+}
+
+// The rule on one key of a curve, with the frame before it, which for its curve's first key is its own.
+pub fn key_rule(curve: usize, before: f32, key: Key) -> bool
+    ensures { λ r. ⌜ r ≡ keyRule curve before (key .frame) (key .value) (key .slope) ⌝ }
+{
+    if curve == (CONSTANT as usize) {
+        return same_bits(key.frame, 0.0) & same_bits(key.slope, 0.0);
+    }
+    if curve == (STEP as usize) {
+        return same_bits(key.slope, 0.0) & is_whole16(key.value) & (before <= key.frame);
+    }
+    before <= key.frame
 }
 
 // Track t, where the targets start at `base`.
@@ -138,7 +154,7 @@ fn tracks_ok(s: &[u8], frames: &[f32], values: &[f32], slopes: &[f32]) -> bool
 fn keys_fit(s: &[u8], frames: &[f32], values: &[f32], slopes: &[f32]) -> bool
     ensures { λ r. ⌜ r ≡ keysFit (now (s .entry)) (now (frames .entry)) (now (values .entry)) (now (slopes .entry)) ⌝ }
 {
-    if s.len() < 12 {
+    if s.len() < sheet::HEAD {
         return false;
     }
     let n = sheet::key_count(s);

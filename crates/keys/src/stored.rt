@@ -1,16 +1,15 @@
 // The keys that a sheet holds, checked and copied straight from its bytes, so that nothing lent changes before the check has passed.
+use crate::rules::key_rule;
+use curve::Key;
 use field::f32_at;
 use field::finite_at;
-use float::is_whole16;
-use float::same_bits;
 ghost use mathlib.Core.Path.{_≡_};
-ghost use Prim.Native.Nat.{ℕ, _+_, _-_, _*_, _<_, _≤_};
-ghost use lib.ListN.{length};
+ghost use Prim.Native.Nat.{_+_, _-_, _*_, _<_, _≤_};
 ghost use Rattle.laws.specs.Below.{allBelow};
 ghost use Rattle.field.specs.Read.{floatAt};
 ghost use Rattle.sheet.specs.Sizes.{keyCount, targetCount, framesAt, pointsAt};
 ghost use Rattle.sheet.specs.Checked.{Checked};
-ghost use Rattle.keys.specs.Rules.{finiteKey, keyRule, curveOk, trackOk};
+ghost use Rattle.keys.specs.Rules.{finiteKey, curveOk, trackOk};
 ghost use Rattle.keys.specs.Keys.{keysOk};
 ghost use Rattle.keys.specs.Stored.{storedFrames, storedValues, storedSlopes, Stored};
 
@@ -18,7 +17,7 @@ pub fn frames_at(s: &[u8]) -> usize
     requires { ⌜ Checked (now s) ⌝ }
     ensures { λ r. ⌜ r ≡ framesAt (now (s .entry)) ⌝ }
 {
-    sheet::textures_at(s) + sheet::texture_count(s) * 24
+    sheet::textures_at(s) + sheet::texture_count(s) * field::NAME_BYTES
 }
 
 pub fn points_at(s: &[u8]) -> usize
@@ -68,19 +67,6 @@ fn slope_at(s: &[u8], i: usize) -> f32
     f32_at(s, points_at(s) + 4 + i * 8)
 }
 
-// The rule on one key, with the frame before it.
-pub fn key_rule(curve: usize, before: f32, frame: f32, value: f32, slope: f32) -> bool
-    ensures { λ r. ⌜ r ≡ keyRule curve before frame value slope ⌝ }
-{
-    if curve == 0 {
-        return same_bits(frame, 0.0) & same_bits(slope, 0.0);
-    }
-    if curve == 1 {
-        return same_bits(slope, 0.0) & is_whole16(value) & (before <= frame);
-    }
-    before <= frame
-}
-
 // `last` is the key before i, which for the first is the first.
 fn curve_stored(s: &[u8], curve: usize, first: usize, count: usize) -> bool
     requires { ⌜ Stored (now s) × (first + count ≤ keyCount (now s)) ⌝ }
@@ -90,13 +76,12 @@ fn curve_stored(s: &[u8], curve: usize, first: usize, count: usize) -> bool
     let mut i = 0;
     while i < count {
         let k = first + i;
-        if !key_rule(
-            curve,
-            frame_at(s, last),
-            frame_at(s, k),
-            value_at(s, k),
-            slope_at(s, k),
-        ) {
+        let key = Key {
+            frame: frame_at(s, k),
+            value: value_at(s, k),
+            slope: slope_at(s, k),
+        };
+        if !key_rule(curve, frame_at(s, last), key) {
             return false;
         }
         last = k;

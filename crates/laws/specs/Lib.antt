@@ -11,4 +11,5 @@ pub mod Grown
 pub mod Swept
 pub mod Rows
 pub mod Order
+pub mod Given
 pub mod Only

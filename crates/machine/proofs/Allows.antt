@@ -9,10 +9,10 @@ use Rattle.sheet.specs.Sizes.{targetCount}
 use Rattle.sheet.specs.Rows.{targetRow}
 use Rattle.sheet.specs.Checked.{Checked, checked}
 use Rattle.keys.specs.Load.{arraysOk, lengthsOk}
-use Rattle.player.specs.Keys.{Keys, put-length}
-use Rattle.player.specs.Edit.{Edit, place, edited, spotOf, madeEdit, editRows}
-use Rattle.player.specs.Put.{has-key, place-within, here-fits, fits-same}
-use Rattle.player.specs.Accepted.{HeldRequest, accepted-key, edit-fits, edit-keeps, edit-held}
+use Rattle.edit.specs.Keys.{Keys, put-length}
+use Rattle.edit.specs.Edit.{Edit, place, edited, spotOf, madeEdit, editRows}
+use Rattle.edit.specs.Put.{has-key, place-within, here-fits, fits-same}
+use Rattle.edit.specs.Accepted.{HeldRequest, accepted-key, edit-fits, edit-keeps, edit-held}
 use Rattle.menu.specs.Calls.{entryFor}
 use Rattle.machine.proofs.Invariant.{Sane, Fair}
 

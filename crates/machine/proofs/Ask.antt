@@ -8,10 +8,11 @@ use Rattle.laws.specs.Rows.{declines}
 use Rattle.sheet.specs.Sheet.{sheetOk}
 use Rattle.player.specs.declared.Player.{Player}
 use Rattle.player.specs.declared.journal.Journal.{Journal}
-use Rattle.player.specs.Keys.{Keys}
-use Rattle.player.specs.View.{viewOf}
-use Rattle.menu.specs.Rows.{readingRows, readPaneTable, readMaterialTable, readAllTable, resolvePaneTable, resolveSrtTable, textureNameTable, cascadeTable}
-use Rattle.menu.specs.Readings.{readPaneOf, readMaterialOf, readAllOf, resolvePaneOf, resolveSrtOf, textureNameOf, cascadeOf}
+use Rattle.edit.specs.Keys.{Keys}
+use Rattle.player.specs.Parts.{viewOf}
+use Rattle.menu_checks.specs.Rows.{readingRows}
+use Rattle.menu_readings.specs.Rows.{readPaneTable, readMaterialTable, readAllTable, resolvePaneTable, resolveSrtTable, textureNameTable, cascadeTable}
+use Rattle.menu_readings.specs.Readings.{readPaneOf, readMaterialOf, readAllOf, resolvePaneOf, resolveSrtOf, textureNameOf, cascadeOf}
 use Rattle.machine.specs.Asks.{Ask, paneChannel, materialChannel, all, pane, layer, texture, cascade, askRows, askRefusal, askTable, tellIn, tellOf}
 use Rattle.machine.specs.Calls.{ask}
 use Rattle.machine.specs.Plain.{Plain, keysOf}

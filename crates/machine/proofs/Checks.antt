@@ -11,10 +11,10 @@ use Rattle.laws.specs.Rows.{Row, row, unless, declines, joined}
 use Rattle.laws.specs.Below.{allBelow, all-of}
 use Rattle.sheet.specs.Sheet.{sheetOk}
 use Rattle.player.specs.declared.journal.Journal.{Journal}
-use Rattle.player.specs.Journal.{rowOf}
-use Rattle.player.specs.Player.{entryOk, usedOk, countsOk, playerOk, most, rows}
+use Rattle.player.specs.Journal.{rowOf, rows}
+use Rattle.player.specs.Player.{entryOk, usedOk, countsOk, playerOk, most}
 use Rattle.book.specs.Book.{bookOk}
-use Rattle.menu.specs.Rows.{arrayRows, brokenRows, playerRows, stateRows, readingRows}
+use Rattle.menu_checks.specs.Rows.{arrayRows, brokenRows, playerRows, stateRows, readingRows}
 use Rattle.machine.specs.Plain.{Plain, keysOf}
 use Rattle.machine.proofs.Invariant.{Good, image, back-ok, fore-ok}
 

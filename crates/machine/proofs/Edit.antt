@@ -10,12 +10,11 @@ use Rattle.laws.specs.Rows.{declines}
 use Rattle.sheet.specs.Sheet.{sheetOk}
 use Rattle.player.specs.declared.journal.Entry.{Entry}
 use Rattle.player.specs.declared.journal.Journal.{Journal}
-use Rattle.player.specs.declared.edit.Request.{Request}
-use Rattle.player.specs.Journal.{withRow, row-same, whole-write}
-use Rattle.player.specs.Player.{rows}
-use Rattle.player.specs.Edit.{Edit, madeEdit, editRows}
-use Rattle.player.specs.Accepted.{HeldRequest}
-use Rattle.player.specs.Undo.{editedPlayer}
+use Rattle.edit.specs.declared.request.Request.{Request}
+use Rattle.player.specs.Journal.{withRow, row-same, whole-write, rows}
+use Rattle.edit.specs.Edit.{Edit, madeEdit, editRows}
+use Rattle.edit.specs.Accepted.{HeldRequest}
+use Rattle.player.specs.Edited.{editedPlayer}
 use Rattle.menu.specs.Rows.{editTable}
 use Rattle.menu.specs.Calls.{entryFor, editOf}
 use Rattle.machine.specs.Calls.{edit}

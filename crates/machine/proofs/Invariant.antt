@@ -12,12 +12,11 @@ use Rattle.keys.specs.Load.{lengthsOk}
 use Rattle.player.specs.declared.Player.{Player}
 use Rattle.player.specs.declared.journal.Entry.{Entry}
 use Rattle.player.specs.declared.journal.Journal.{Journal}
-use Rattle.player.specs.Keys.{Keys, HeldKeys, keyAt, Within}
-use Rattle.player.specs.Journal.{rowOf, withRow, Whole, row-other}
-use Rattle.player.specs.Player.{selectionOk, entryOk, rows}
-use Rattle.player.specs.View.{View}
-use Rattle.player.specs.Edit.{Edit, place, edited, madeEdit}
-use Rattle.player.specs.Undo.{sameKey, keysOkOf}
+use Rattle.edit.specs.Keys.{Keys, HeldKeys, keyAt, Within, sameKey, keysOkOf}
+use Rattle.player.specs.Journal.{rowOf, withRow, Whole, row-other, rows}
+use Rattle.player.specs.Player.{selectionOk, entryOk}
+use Rattle.player.specs.Parts.{playerOf, View}
+use Rattle.edit.specs.Edit.{Edit, place, edited, madeEdit}
 use Rattle.menu.specs.Calls.{entryFor}
 use Rattle.machine.specs.Plain.{Plain, replay, keysOf}
 
@@ -60,11 +59,8 @@ pub record Seen (s : List ℕ) (v : View) : Type 0 where
 -- the player that stands for the machine m with the journal j
 abbrev pub image : Plain → Journal → Player
 image m j =
-    record {
-      selection = m .view .selection;
-      playing = m .view .playing;
-      preview = m .view .preview;
-      frame = m .view .frame;
+    playerOf (m .view)
+    (record {
       reach = m .reach;
       redo = length (m .redo);
       accepted = m .accepted;
@@ -72,7 +68,7 @@ image m j =
       redone = m .redone;
       standing = length (m .standing);
       journal = j;
-    }
+    })
 
 -- after n calls
 pub record Good (s : List ℕ) (n : ℕ) (m : Plain) (j : Journal) : Type 0 where
@@ -87,7 +83,7 @@ pub record Good (s : List ℕ) (n : ℕ) (m : Plain) (j : Journal) : Type 0 wher
   pub few : m .accepted + m .undone + m .redone ≤ n
 
 -- two edits fewer than 128 apart have different rows
-pub apart : (i k : ℕ) → i < k → k < i + 128 → i % 128 ≡ k % 128 → ⊥
+pub apart : (i k : ℕ) → i < k → k < i + rows → i % rows ≡ k % rows → ⊥
 apart i k h l e = omega arith
 
 module _ (s : List ℕ) (j : Journal) (ks : Keys) where
@@ -100,7 +96,7 @@ module _ (s : List ℕ) (j : Journal) (ks : Keys) where
   less (e ∷ es) (suc r) (suc q) h t = (t .0, less es r q (omega arith) (t .1))
 
   -- a row that is written for edit number k leaves the rows of the r edits before it, if they are fewer than 128
-  pub kept : (k : ℕ) (x : Entry) (es : List Edit) (r : ℕ) → length es ≤ k → k + r < length es + 128 → Back s j ks es r → Back s (withRow j k x) ks es r
+  pub kept : (k : ℕ) (x : Entry) (es : List Edit) (r : ℕ) → length es ≤ k → k + r < length es + rows → Back s j ks es r → Back s (withRow j k x) ks es r
   kept k x es zero h l t = tt
   kept k x [] (suc r) h l t = t
   kept k x (e ∷ es) (suc r) h l t = (

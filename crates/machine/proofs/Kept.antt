@@ -1,15 +1,14 @@
 -- What one call keeps: the player stays an image of the machine, and both answer the same; and what keeps it so where only the view moves, or nothing.
 -- Assumes nothing.
 use mathlib.Core.Path.{_≡_, refl}
-use mathlib.Core.Bool.{false}
+use mathlib.Core.Bool.{false, cond}
 use mathlib.Core.List.{List}
 use Prim.Native.Nat.{ℕ, zero, suc, _-_}
 use native.Mathlib.Omega.{arith}
 use borrow.Author.Tests.{ne-eqb}
 use lib.Dec.{eqb}
 use Rattle.player.specs.declared.journal.Journal.{Journal}
-use Rattle.player.specs.View.{View}
-use Rattle.menu.specs.Calls.{pickPlayer}
+use Rattle.player.specs.Parts.{View}
 use Rattle.machine.specs.Calls.{Call, Answer, number, State, stepP}
 use Rattle.machine.specs.Plain.{Plain, keysOf, viewed, moves, stepM}
 use Rattle.machine.proofs.Invariant.{Seen, image, Good}
@@ -47,7 +46,7 @@ module _ (s : List ℕ) (n : ℕ) (m : Plain) (j : Journal) (g : Good s n m j) w
 -- the two sides of a call that moves the view, by its refusal
 pub moved : (s : List ℕ) (k : ℕ) (m : Plain) (j : Journal) (v : View) →
     _≡_ {A = State × Answer}
-    (record { player = pickPlayer (eqb k 0) (image (viewed m v) j) (image m j); keys = keysOf s m }, number k)
+    (record { player = cond (eqb k 0) (image (viewed m v) j) (image m j); keys = keysOf s m }, number k)
     (stateOf s (moves k m v .0) j, moves k m v .1)
 moved s zero m j v = refl
 moved s (suc k) m j v = rw (suc-not k)

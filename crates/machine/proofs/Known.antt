@@ -28,22 +28,25 @@ use Rattle.keys.specs.Stored.{storedFrames, storedValues, storedSlopes}
 use Rattle.keys.specs.Load.{arraysOk, lengthsOk, loadTable, loadOf}
 use Rattle.curve.specs.Keys.{before}
 use Rattle.curve.specs.Span.{spanOf}
-use Rattle.curve.specs.Curve.{curveTaken, valueOf, evalCurve}
-use Rattle.geometry.specs.Declined as declined
-use Rattle.geometry.specs.Uvs as uvs
-use Rattle.geometry.specs.Corners.{rotated, startOf, cornersOf}
-use Rattle.geometry.specs.Calls.{uvsOf, placedOf}
-use Rattle.channel.specs.Channel.{familyOf, listed, paneChannel, colourPlace, materialChannel, ofPane, ofMaterial, paneNamed, materialNamed, contentReach, activeReach, address, rowChannel, targetChannel}
+use Rattle.curve.specs.Curve.{evalHermite, evalCurve}
+use Rattle.uv.specs.Declined as declined
+use Rattle.uv.specs.Uvs as uvs
+use Rattle.uv.specs.Calls.{uvsOf}
+use Rattle.corner.specs.Declined.{rotationRows, cornersTable}
+use Rattle.corner.specs.Corners.{rotated, startOf, cornersOf}
+use Rattle.corner.specs.Calls.{placedOf}
+use Rattle.channel.specs.Channel.{familyOf, listed, paneChannel, colourPlace, slotChannel, materialChannel, ofPane, ofMaterial, paneNamed, materialNamed, contentReach, activeReach, address, rowChannel, targetChannel}
 use Rattle.reading.specs.Reading.{valueAt, value16At, levelOf, rowOf, rowReading, targetReading, lastTarget, reading}
 use Rattle.resolve.specs.Resolve.{paneNumber, visibleOf, alphaOf}
 use Rattle.resolve.specs.Cascade.{under, above, rowFrom, cascade, visibles, alphas, influences}
-use Rattle.player.specs.Keys.{keyAt, putKey}
-use Rattle.player.specs.Player.{freshPlayer, selectionOk, hasKey, usedOk, countsOk, playerOk}
+use Rattle.edit.specs.Keys.{keyAt, putKey}
+use Rattle.player.specs.Player.{freshPlayer, selectionOk, usedOk, countsOk, playerOk}
+use Rattle.edit.specs.Edit.{hasKey, place, spotOf, lowest, highest, clampedFrame, editedFrame, editedValue, editedAt, edited, overtakes, requestRows, keyIn, editRows}
 use Rattle.player.specs.View.{playView, poseView, ticks, tickSum, countOf, wraps, tickFrame, tickMoves, tickEnds, endOf, tickView, tickAnswer}
-use Rattle.player.specs.Edit.{place, spotOf, lowest, highest, clampedFrame, editedFrame, editedValue, editedAt, edited, overtakes, requestRows, keyIn, editRows}
-use Rattle.menu.specs.Rows.{playRows, poseRows, tickRows, paneChannelRows, materialChannelRows, cascadeRows, playTable, poseTable, tickTable, editTable, nextNameTable, readPaneTable, readMaterialTable, cascadeTable}
+use Rattle.menu.specs.Rows.{playRows, poseRows, tickRows, playTable, poseTable, tickTable, editTable, nextNameTable}
+use Rattle.menu_readings.specs.Rows.{paneChannelRows, materialChannelRows, cascadeRows, readPaneTable, readMaterialTable, cascadeTable}
 use Rattle.menu.specs.Calls.{playOf, poseOf, tickOf, editOf, loadedOf, nextNameOf}
-use Rattle.menu.specs.Readings.{activeIn, oneOf, cascadedOf, readPaneOf, readMaterialOf, cascadeOf}
+use Rattle.menu_readings.specs.Readings.{activeIn, oneOf, cascadedOf, readPaneOf, readMaterialOf, cascadeOf}
 use Rattle.machine.specs.Small as small
 use Rattle.machine.specs.Poses as poses
 
@@ -68,15 +71,15 @@ unfolding finiteKey constantKey stepKey curveOk trackOk keysFit heldTrack keysOk
 keys = tt
 
 curves : Unit {0}
-unfolding before spanOf curveTaken valueOf evalCurve
+unfolding before spanOf evalHermite evalCurve
 curves = tt
 
 shapes : Unit {0}
-unfolding declined.finiteAt declined.allFinite declined.angleAt declined.anglesPass declined.uvsTable declined.rotationRows declined.cornersTable uvs.transformOf uvs.unitSquare uvs.layerUv uvs.cornerUvs uvs.cornerDone uvs.layerApplied uvs.numberOf rotated startOf cornersOf uvsOf placedOf
+unfolding declined.finiteAt declined.allFinite declined.angleAt declined.anglesPass declined.uvsTable rotationRows cornersTable uvs.transformOf uvs.unitSquare uvs.layerUv uvs.cornerUvs uvs.cornerDone uvs.layerApplied uvs.numberOf rotated startOf cornersOf uvsOf placedOf
 shapes = tt
 
 readings : Unit {0}
-unfolding familyOf listed paneChannel colourPlace materialChannel ofPane ofMaterial paneNamed materialNamed contentReach activeReach address rowChannel targetChannel valueAt value16At levelOf rowOf rowReading targetReading lastTarget reading paneNumber visibleOf alphaOf under above rowFrom cascade visibles alphas influences
+unfolding familyOf listed paneChannel colourPlace slotChannel materialChannel ofPane ofMaterial paneNamed materialNamed contentReach activeReach address rowChannel targetChannel valueAt value16At levelOf rowOf rowReading targetReading lastTarget reading paneNumber visibleOf alphaOf under above rowFrom cascade visibles alphas influences
 readings = tt
 
 player : Unit {0}

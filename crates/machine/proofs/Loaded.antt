@@ -19,7 +19,7 @@ use Rattle.keys.specs.Keys.{keysOk}
 use Rattle.keys.specs.Stored.{floatsFrom, storedFrames, storedValues, storedSlopes, frames-long, values-long, slopes-long}
 use Rattle.keys.specs.Load.{arraysOk, lengthsOk, loadTable, loadOf}
 use Rattle.curve.specs.Before.{Held}
-use Rattle.player.specs.Keys.{Keys, keys}
+use Rattle.edit.specs.Keys.{Keys, keys}
 use Rattle.menu.specs.Calls.{loadedOf}
 use Rattle.machine.proofs.Invariant.{Sane}
 

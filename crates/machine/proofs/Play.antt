@@ -1,6 +1,6 @@
 -- Play keeps the player an image of the machine. Assumes nothing.
 use mathlib.Core.Path.{_≡_, refl}
-use mathlib.Core.Bool.{Bool, true, false}
+use mathlib.Core.Bool.{Bool, true, false, cond}
 use mathlib.Core.List.{List}
 use Prim.Native.Nat.{ℕ, _<_, _^_}
 use native.Mathlib.Omega.{arith}
@@ -10,8 +10,10 @@ use Rattle.laws.specs.Rows.{declines, held}
 use Rattle.float.specs.Numbers.{zero'}
 use Rattle.sheet.specs.Sheet.{sheetOk}
 use Rattle.player.specs.declared.journal.Journal.{Journal}
-use Rattle.player.specs.Player.{none, selectionOk}
-use Rattle.player.specs.View.{View, pickView, playView}
+use Rattle.edit.specs.Edit.{none}
+use Rattle.player.specs.Player.{selectionOk}
+use Rattle.player.specs.Parts.{View}
+use Rattle.player.specs.View.{playView}
 use Rattle.menu.specs.Rows.{playRows, playTable}
 use Rattle.menu.specs.Calls.{playOf}
 use Rattle.machine.specs.Calls.{play}
@@ -25,7 +27,7 @@ play-seen : (s : List ℕ) (a : ℕ) (v : View) → Seen s v → declines (playR
 unfolding playRows playView selectionOk ofBits
 play-seen s a v w e = go (eqb a none) refl
   where
-    go : (b : Bool) → eqb a none ≡ b → Seen s (pickView b v (record { selection = a; playing = true; preview = true; frame = zero' }))
+    go : (b : Bool) → eqb a none ≡ b → Seen s (cond b v (record { selection = a; playing = true; preview = true; frame = zero' }))
     go true q = w
     go false q = record { selection = held (playRows s a) tt e .0; frame = refl }
 

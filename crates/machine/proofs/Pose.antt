@@ -1,6 +1,6 @@
 -- Pose keeps the player an image of the machine. Assumes nothing.
 use mathlib.Core.Path.{_≡_, refl}
-use mathlib.Core.Bool.{Bool, true, false}
+use mathlib.Core.Bool.{Bool, true, false, cond}
 use mathlib.Core.List.{List}
 use Prim.Native.Nat.{ℕ, _<_, _^_}
 use native.Mathlib.Omega.{arith}
@@ -11,8 +11,10 @@ use Rattle.laws.specs.Tests.{or-right}
 use Rattle.sheet.specs.Sizes.{animationCount}
 use Rattle.sheet.specs.Sheet.{sheetOk}
 use Rattle.player.specs.declared.journal.Journal.{Journal}
-use Rattle.player.specs.Player.{none, selectionOk}
-use Rattle.player.specs.View.{pickView, noView, poseView}
+use Rattle.edit.specs.Edit.{none}
+use Rattle.player.specs.Player.{selectionOk}
+use Rattle.player.specs.View.{poseView}
+use Rattle.player.specs.Parts.{noView}
 use Rattle.menu.specs.Rows.{poseRows, poseTable}
 use Rattle.menu.specs.Calls.{poseOf}
 use Rattle.machine.specs.Calls.{pose}
@@ -25,7 +27,7 @@ pose-seen : (s : List ℕ) (a : ℕ) (x : Float) → declines (poseRows x) ≡ 0
 unfolding poseRows poseView selectionOk ofBits
 pose-seen s a x e = go (ltb a (animationCount s)) refl
   where
-    go : (b : Bool) → ltb a (animationCount s) ≡ b → Seen s (pickView b (record { selection = a; playing = false; preview = true; frame = x }) noView)
+    go : (b : Bool) → ltb a (animationCount s) ≡ b → Seen s (cond b (record { selection = a; playing = false; preview = true; frame = x }) noView)
     go true q = record { selection = or-right (eqb a none) (ltb a (animationCount s)) q; frame = held (poseRows x) tt e .0 }
     go false q = record { selection = refl; frame = refl }
 

@@ -9,12 +9,12 @@ use lib.ListN.{length}
 use Rattle.laws.specs.Rows.{unless, declines}
 use Rattle.sheet.specs.Sheet.{sheetOk}
 use Rattle.player.specs.declared.journal.Journal.{Journal}
-use Rattle.player.specs.Keys.{Keys}
-use Rattle.player.specs.View.{View}
-use Rattle.player.specs.Edit.{Edit, madeEdit}
-use Rattle.player.specs.Undo.{returnsOk, redoFits, redoRows, redoEntry, redoneKeys, redonePlayer}
-use Rattle.menu.specs.Rows.{redoTable}
-use Rattle.menu.specs.Calls.{entryFor, redoOf}
+use Rattle.edit.specs.Keys.{Keys}
+use Rattle.player.specs.Parts.{View}
+use Rattle.edit.specs.Edit.{Edit, madeEdit}
+use Rattle.player.specs.Undo.{takesOk, takeFits, takeRows, entryOf, takenKeys, redonePlayer}
+use Rattle.menu.specs.Rows.{takeTable}
+use Rattle.menu.specs.Calls.{entryFor, takeOf}
 use Rattle.machine.specs.Calls.{redo}
 use Rattle.machine.specs.Plain.{Plain, replay}
 use Rattle.machine.proofs.Invariant.{Fair, Good}
@@ -24,14 +24,13 @@ use Rattle.machine.proofs.Kept.{Kept, suc-not, less-one, later}
 module _ (s : List ℕ) (ks : Keys) where
   -- an edit that was taken back is made again
   made-again : (es : List Edit) (e : Edit) →
-      redoneKeys s (replay s ks es) (entryFor s (replay s ks es) (e .track) (e .key) (e .request)) ≡ replay s ks (e ∷ es)
-  unfolding redoneKeys replay madeEdit entryFor
+      takenKeys s (replay s ks es) (entryFor s (replay s ks es) (e .track) (e .key) (e .request)) ≡ replay s ks (e ∷ es)
+  unfolding takenKeys replay madeEdit entryFor
   made-again es e = refl
 
   redo-fits : (es : List Edit) (e : Edit) → Fair s (replay s ks es) e →
-      let x = entryFor s (replay s ks es) (e .track) (e .key) (e .request) in
-      returnsOk s (replay s ks es) x (x .before) (x .after) ≡ true
-  unfolding returnsOk madeEdit entryFor
+      takesOk s (replay s ks es) (entryFor s (replay s ks es) (e .track) (e .key) (e .request)) ≡ true
+  unfolding takesOk madeEdit entryFor
   redo-fits es e f = rw (f .old, f .made .rules)
 
 module _ (s : List ℕ) (n : ℕ) (j : Journal) (ok : sheetOk s ≡ true) (few : n < 2 ^ 40) (ks : Keys) (a d c : ℕ) (v : View) where
@@ -39,7 +38,7 @@ module _ (s : List ℕ) (n : ℕ) (j : Journal) (ok : sheetOk s ≡ true) (few :
   M es us r = record { loaded = ks; standing = es; redo = us; reach = r; accepted = a; undone = d; redone = c; view = v }
 
   pub redo-kept : (es us : List Edit) (r : ℕ) → Good s n (M es us r) j → Kept s n redo (M es us r) j
-  unfolding redoOf redoTable redoRows redoFits redoEntry redonePlayer declines unless
+  unfolding takeOf takeTable takeRows takeFits entryOf redonePlayer declines unless
   redo-kept es [] r g = record { journal = j; same = rw (state-passes s n (M es [] r) j ok (omega arith) g _); good = later s n (M es [] r) j g }
   redo-kept es (e ∷ us) r g =
       let f = g .fore .0 .fair in

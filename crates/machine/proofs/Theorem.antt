@@ -8,10 +8,10 @@ use lib.ListN.{length}
 use lib.Ieee.{ofBits}
 use Rattle.sheet.specs.Sheet.{sheetOk}
 use Rattle.player.specs.declared.journal.Journal.{Journal}
-use Rattle.player.specs.Keys.{Keys}
-use Rattle.player.specs.Journal.{emptyJournal, whole-empty}
-use Rattle.player.specs.Player.{freshPlayer, selectionOk, rows}
-use Rattle.player.specs.View.{viewOf}
+use Rattle.edit.specs.Keys.{Keys}
+use Rattle.player.specs.Journal.{emptyJournal, whole-empty, rows}
+use Rattle.player.specs.Player.{freshPlayer, selectionOk}
+use Rattle.player.specs.Parts.{viewOf}
 use Rattle.machine.specs.Runs.{last, answers, Each}
 use Rattle.machine.specs.Calls.{Call, HeldCall, State, stepP}
 use Rattle.machine.specs.Plain.{Plain, replay, stepM, freshM}

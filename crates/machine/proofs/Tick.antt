@@ -1,6 +1,6 @@
 -- A tick keeps the player an image of the machine; where it ends with a next name, `next_name` answers the machine's. Assumes nothing.
 use mathlib.Core.Path.{_≡_, refl}
-use mathlib.Core.Bool.{Bool, true, false, not, _&&_, _||_}
+use mathlib.Core.Bool.{Bool, true, false, not, _&&_, _||_, cond}
 use mathlib.Core.List.{List}
 use Prim.Native.Nat.{ℕ, zero, suc, _<_, _^_}
 use native.Mathlib.Omega.{arith}
@@ -14,9 +14,10 @@ use Rattle.sheet.specs.Sheet.{sheetOk}
 use Rattle.player.specs.declared.Tick.{Tick}
 use Rattle.player.specs.declared.Tick.the-variants.{Idle, Running, Ended, Next}
 use Rattle.player.specs.declared.journal.Journal.{Journal}
-use Rattle.player.specs.View.{View, pickView, tickView, tickAnswer, ticks, tickSum, tickFrame, tickEnds, pickTick, tickMoves}
+use Rattle.player.specs.Parts.{View}
+use Rattle.player.specs.View.{tickView, tickAnswer, ticks, tickSum, tickFrame, tickEnds, tickMoves}
 use Rattle.menu.specs.Rows.{tickRows, tickTable}
-use Rattle.menu.specs.Calls.{pickPlayer, tickOf, nextNameOf}
+use Rattle.menu.specs.Calls.{tickOf, nextNameOf}
 use Rattle.menu.specs.Named.{next-named}
 use Rattle.machine.specs.Calls.{tick, Answer, ticked, State, onNext}
 use Rattle.machine.specs.Plain.{Plain, keysOf, viewed, ticksOn}
@@ -32,7 +33,7 @@ tick-seen s dt fps v w e = go (ticks v) refl
     finite-left b c d q h = and-2 c d (rw q at h)
 
     go : (b : Bool) → ticks v ≡ b →
-        Seen s (pickView b (record { selection = v .selection; playing = not (tickEnds s (v .selection) (tickSum v dt fps)); preview = v .preview; frame = tickFrame s (v .selection) (tickSum v dt fps) }) v)
+        Seen s (cond b (record { selection = v .selection; playing = not (tickEnds s (v .selection) (tickSum v dt fps)); preview = v .preview; frame = tickFrame s (v .selection) (tickSum v dt fps) }) v)
     go true q =
         record {
           selection = w .selection;
@@ -65,8 +66,8 @@ module _ (s : List ℕ) (n : ℕ) (m : Plain) (j : Journal) (ok : sheetOk s ≡ 
 
       by-refusal : (k : ℕ) →
           _≡_ {A = State × Answer} (
-            record { player = pickPlayer (eqb k 0) (image (viewed m v) j) (image m j); keys = keysOf s m },
-            ticked k (pickTick (eqb k 0) t Idle) (onNext (pickTick (eqb k 0) t Idle) (nextNameOf s (pickPlayer (eqb k 0) (image (viewed m v) j) (image m j) .selection))),
+            record { player = cond (eqb k 0) (image (viewed m v) j) (image m j); keys = keysOf s m },
+            ticked k (cond (eqb k 0) t Idle) (onNext (cond (eqb k 0) t Idle) (nextNameOf s (cond (eqb k 0) (image (viewed m v) j) (image m j) .selection))),
           )
           (stateOf s (ticksOn k s dt fps m .0) j, ticksOn k s dt fps m .1)
       by-refusal zero = rw (same-name t (nextNameOf s (v .selection)) (nextName s (m .view .selection)) (next-named s dt fps (m .view) ok (g .seen .selection)))

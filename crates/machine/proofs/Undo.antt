@@ -9,12 +9,12 @@ use lib.ListN.{length}
 use Rattle.laws.specs.Rows.{unless, declines}
 use Rattle.sheet.specs.Sheet.{sheetOk}
 use Rattle.player.specs.declared.journal.Journal.{Journal}
-use Rattle.player.specs.Keys.{Keys, keyAt, get-put, put-put, put-get}
-use Rattle.player.specs.View.{View}
-use Rattle.player.specs.Edit.{Edit, place, edited, madeEdit}
-use Rattle.player.specs.Undo.{returnsOk, undoFits, undoRows, undoEntry, undoneKeys, undonePlayer}
-use Rattle.menu.specs.Rows.{undoTable}
-use Rattle.menu.specs.Calls.{entryFor, undoOf}
+use Rattle.edit.specs.Keys.{Keys, keyAt, get-put, put-put, put-get}
+use Rattle.player.specs.Parts.{View}
+use Rattle.edit.specs.Edit.{Edit, place, edited, madeEdit}
+use Rattle.player.specs.Undo.{turned, takesOk, takeFits, takeRows, entryOf, takenKeys, undonePlayer}
+use Rattle.menu.specs.Rows.{takeTable}
+use Rattle.menu.specs.Calls.{entryFor, takeOf}
 use Rattle.machine.specs.Calls.{undo}
 use Rattle.machine.specs.Plain.{Plain, replay}
 use Rattle.machine.proofs.Invariant.{Fair, Good}
@@ -24,14 +24,13 @@ use Rattle.machine.proofs.Kept.{Kept, suc-not, less-one, later}
 module _ (s : List ℕ) (ks : Keys) where
   -- an edit that was made is taken back: the key is as the entry left it, and what it returns keeps the key rules
   taken-back : (es : List Edit) (e : Edit) → Fair s (replay s ks es) e →
-      undoneKeys s (replay s ks (e ∷ es)) (entryFor s (replay s ks es) (e .track) (e .key) (e .request)) ≡ replay s ks es
-  unfolding undoneKeys replay madeEdit entryFor
+      takenKeys s (replay s ks (e ∷ es)) (turned (entryFor s (replay s ks es) (e .track) (e .key) (e .request))) ≡ replay s ks es
+  unfolding takenKeys replay madeEdit entryFor
   taken-back es e f = put-put _ _ _ _ ∙ put-get _ _
 
   undo-fits : (es : List Edit) (e : Edit) → Fair s (replay s ks es) e →
-      let x = entryFor s (replay s ks es) (e .track) (e .key) (e .request) in
-      returnsOk s (replay s ks (e ∷ es)) x (x .after) (x .before) ≡ true
-  unfolding returnsOk replay madeEdit entryFor
+      takesOk s (replay s ks (e ∷ es)) (turned (entryFor s (replay s ks es) (e .track) (e .key) (e .request))) ≡ true
+  unfolding takesOk replay madeEdit entryFor
   undo-fits es e f = rw (get-put _ _ (edited s (replay s ks es) (e .track) (e .key) (e .request)) (f .within), f .new, put-put _ _ (edited s (replay s ks es) (e .track) (e .key) (e .request)) (keyAt (replay s ks es) (place s (e .track) (e .key))), put-get (replay s ks es) (place s (e .track) (e .key)), f .sane .rules)
 
 module _ (s : List ℕ) (n : ℕ) (j : Journal) (ok : sheetOk s ≡ true) (few : n < 2 ^ 40) (ks : Keys) (a d c : ℕ) (v : View) where
@@ -39,7 +38,7 @@ module _ (s : List ℕ) (n : ℕ) (j : Journal) (ok : sheetOk s ≡ true) (few :
   M es us r = record { loaded = ks; standing = es; redo = us; reach = r; accepted = a; undone = d; redone = c; view = v }
 
   pub undo-kept : (es us : List Edit) (r : ℕ) → Good s n (M es us r) j → Kept s n undo (M es us r) j
-  unfolding undoOf undoTable undoRows undoFits undoEntry undonePlayer declines unless
+  unfolding takeOf takeTable takeRows takeFits entryOf undonePlayer declines unless
   undo-kept es us zero g = record { journal = j; same = rw (state-passes s n (M es us 0) j ok (omega arith) g _); good = later s n (M es us 0) j g }
   undo-kept [] us (suc r) g = absurd (g .back)
   undo-kept (e ∷ es) us (suc r) g =

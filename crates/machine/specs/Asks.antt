@@ -6,16 +6,13 @@ use lib.Ieee.{Float}
 use Rattle.laws.specs.Rows.{Row, row, declines}
 use Rattle.book.specs.Book.{bookOk}
 use Rattle.player.specs.declared.Player.{Player}
-use Rattle.player.specs.Keys.{Keys}
-use Rattle.player.specs.View.{View}
-use Rattle.menu.specs.declared.readings.ReadOne.{ReadOne}
-use Rattle.menu.specs.declared.readings.ResolvedPane.{ResolvedPane}
-use Rattle.menu.specs.declared.readings.ResolvedSrt.{ResolvedSrt}
-use Rattle.menu.specs.Rows.{paneRows, paneChannelRows, materialChannelRows, layerRows, tablesRows, cascadeRows}
-use Rattle.menu.specs.Rows.{readPaneTable, readMaterialTable, readAllTable, resolvePaneTable, resolveSrtTable, textureNameTable, cascadeTable}
-use Rattle.menu.specs.Readings.{Tables, Cascaded}
-use Rattle.menu.specs.Readings.{readPaneIn, readMaterialIn, readAllIn, resolvePaneIn, resolveSrtIn, textureNameIn, cascadeIn}
-use Rattle.menu.specs.Readings.{readPaneOf, readMaterialOf, readAllOf, resolvePaneOf, resolveSrtOf, textureNameOf, cascadeOf}
+use Rattle.edit.specs.Keys.{Keys}
+use Rattle.player.specs.Parts.{View}
+use Rattle.menu_readings.specs.declared.single.ReadOne.{ReadOne}
+use Rattle.menu_readings.specs.declared.resolved.ResolvedPane.{ResolvedPane}
+use Rattle.menu_readings.specs.declared.resolved.ResolvedSrt.{ResolvedSrt}
+use Rattle.menu_readings.specs.Rows.{paneRows, paneChannelRows, materialChannelRows, layerRows, tablesRows, cascadeRows, readPaneTable, readMaterialTable, readAllTable, resolvePaneTable, resolveSrtTable, textureNameTable, cascadeTable}
+use Rattle.menu_readings.specs.Readings.{Tables, Cascaded, readPaneIn, readMaterialIn, readAllIn, resolvePaneIn, resolveSrtIn, textureNameIn, cascadeIn, readPaneOf, readMaterialOf, readAllOf, resolvePaneOf, resolveSrtOf, textureNameOf, cascadeOf}
 
 -- a reading, with the outputs that are lent to it as they are
 pub data Ask : Type 0 where

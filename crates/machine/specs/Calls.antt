@@ -7,9 +7,9 @@ use lib.Ieee.{Float, binary32, fits}
 use Rattle.player.specs.declared.Player.{Player}
 use Rattle.player.specs.declared.Tick.{Tick}
 use Rattle.player.specs.declared.Tick.the-variants.{Idle, Running, Ended, Next}
-use Rattle.player.specs.Keys.{Keys}
-use Rattle.player.specs.declared.edit.Request.{Request}
-use Rattle.player.specs.Accepted.{HeldRequest}
+use Rattle.edit.specs.Keys.{Keys}
+use Rattle.edit.specs.declared.request.Request.{Request}
+use Rattle.edit.specs.Accepted.{HeldRequest}
 use Rattle.menu.specs.declared.playing.Played.{Played}
 use Rattle.menu.specs.declared.playing.Ticked.{Ticked}
 use Rattle.machine.specs.Asks.{Ask, Told, tellOf}

@@ -1,3 +1,4 @@
+-- The plain machine, the calls, their answers, and small sheets and books with known poses.
 pub mod Runs
 pub mod Asks
 pub mod Calls

@@ -7,12 +7,13 @@ use lib.Ieee.{Float}
 use Rattle.laws.specs.Rows.{declines}
 use Rattle.sheet.specs.Rows.{nextName}
 use Rattle.player.specs.declared.Tick.the-variants.{Idle}
-use Rattle.player.specs.Keys.{Keys}
-use Rattle.player.specs.Player.{rows}
-use Rattle.player.specs.View.{View, noView, playView, poseView, tickView, tickAnswer}
-use Rattle.player.specs.declared.edit.Request.{Request}
-use Rattle.player.specs.Edit.{Edit, madeEdit, editRows}
-use Rattle.player.specs.Undo.{takeRows}
+use Rattle.edit.specs.Keys.{Keys}
+use Rattle.player.specs.Journal.{rows}
+use Rattle.player.specs.Parts.{View, noView}
+use Rattle.player.specs.View.{playView, poseView, tickView, tickAnswer}
+use Rattle.edit.specs.declared.request.Request.{Request}
+use Rattle.edit.specs.Edit.{Edit, madeEdit, editRows}
+use Rattle.player.specs.Undo.{someRows}
 use Rattle.menu.specs.Rows.{playRows, poseRows, tickRows}
 use Rattle.machine.specs.Calls.{Call, play, pose, tick, edit, undo, redo, ask, Answer, number, ticked, told, onNext}
 use Rattle.machine.specs.Asks.{askRefusal, tellIn}
@@ -127,8 +128,8 @@ stepM s (play a) m = moves (declines (playRows s a)) m (playView a (m .view))
 stepM s (pose a x) m = moves (declines (poseRows x)) m (poseView s a x)
 stepM s (tick dt fps) m = ticksOn (declines (tickRows s (m .view) dt fps)) s dt fps m
 stepM s (edit track key r) m = edits (declines (editRows s (m .view .selection) (keysOf s m) track key r)) m (asked m track key r)
-stepM s undo m = undoes (declines (takeRows (m .reach))) m (m .standing)
-stepM s redo m = redoes (declines (takeRows (length (m .redo)))) m (m .redo)
+stepM s undo m = undoes (declines (someRows (m .reach))) m (m .standing)
+stepM s redo m = redoes (declines (someRows (length (m .redo)))) m (m .redo)
 stepM s (ask b q) m = (m, told (tellIn s b (m .view) (keysOf s m) (askRefusal b q) q))
 
 -- freshly loaded

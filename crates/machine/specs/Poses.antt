@@ -12,21 +12,23 @@ use Rattle.float.specs.Numbers.{zero'}
 use Rattle.sheet.specs.Sizes.{keyCount}
 use Rattle.curve.specs.declared.Key.{Key}
 use Rattle.curve.specs.Curve.{kindConstant, kindStep, kindHermite}
-use Rattle.geometry.specs.Calls.{uvsOf, placedOf}
+use Rattle.uv.specs.Calls.{uvsOf}
+use Rattle.corner.specs.Calls.{placedOf}
 use Rattle.reading.specs.declared.Reading.{Reading}
 use Rattle.reading.specs.declared.Reading.the-variants.{Nothing, Number, Shown, Row, Level}
 use Rattle.player.specs.declared.Player.{Player}
 use Rattle.player.specs.declared.Tick.{Tick}
 use Rattle.player.specs.declared.Tick.the-variants.{Idle, Running, Ended, Next}
-use Rattle.player.specs.declared.edit.Request.the-variants as request
-use Rattle.player.specs.Keys.{Keys, keys}
-use Rattle.player.specs.Player.{none, freshPlayer}
-use Rattle.player.specs.View.{withView}
+use Rattle.edit.specs.declared.request.Request.the-variants as request
+use Rattle.edit.specs.Keys.{Keys, keys}
+use Rattle.edit.specs.Edit.{none}
+use Rattle.player.specs.Player.{freshPlayer}
+use Rattle.player.specs.Parts.{withView}
 use Rattle.menu.specs.declared.playing.Played.{Played}
 use Rattle.menu.specs.declared.playing.Ticked.{Ticked}
-use Rattle.menu.specs.declared.readings.ReadOne.{ReadOne}
+use Rattle.menu_readings.specs.declared.single.ReadOne.{ReadOne}
 use Rattle.menu.specs.Calls.{loadedOf, playOf, poseOf, tickOf, editOf, nextNameOf}
-use Rattle.menu.specs.Readings.{readPaneOf, readMaterialOf, cascadeOf}
+use Rattle.menu_readings.specs.Readings.{readPaneOf, readMaterialOf, cascadeOf}
 use Rattle.machine.specs.Small.{over, below, minus, whole, name, Track, sheet, following, book, parent, child, material}
 
 -- ---- answers as numbers: a refusal first, and an f32 by its bits

@@ -16,18 +16,18 @@ use Rattle.sheet.specs.Checked.{Checked, target-keys}
 use Rattle.curve.specs.declared.Key.{Key}
 use Rattle.curve.specs.Keys as curve
 use Rattle.player.specs.declared.Player.{Player}
-use Rattle.player.specs.declared.edit.Request.{Request}
-use Rattle.player.specs.declared.edit.Spot.{Spot}
-use Rattle.player.specs.Keys.{keys, keyAt, putKey}
-use Rattle.player.specs.Player.{none, hasKey}
-use Rattle.player.specs.Edit.{place, spotOf, editedAt, edited, requestRows, keyIn}
-use Rattle.player.specs.Accepted.{accepted-key}
-use Rattle.player.specs.Spot.{Inside, InsideAll}
+use Rattle.edit.specs.declared.request.Request.{Request}
+use Rattle.edit.specs.declared.spot.Spot.{Spot}
+use Rattle.edit.specs.Keys.{keys, keyAt, putKey}
+use Rattle.edit.specs.Edit.{none, hasKey, place, spotOf, editedAt, edited, requestRows, keyIn}
+use Rattle.edit.specs.Accepted.{accepted-key}
+use Rattle.edit.specs.Spot.{Inside, InsideAll}
 use Rattle.player.specs.Counts.{CanEdit}
-use Rattle.player.specs.Undo.{editedPlayer}
-use Rattle.menu.specs.Rows.{stateRows, editTable}
+use Rattle.player.specs.Edited.{editedPlayer}
+use Rattle.menu_checks.specs.Rows.{stateRows}
+use Rattle.menu.specs.Rows.{editTable}
 use Rattle.menu.specs.Calls.{gave, entryFor, editOf}
-use Rattle.menu.proofs.Checks.{state-ready}
+use Rattle.menu_checks.specs.Checks.{state-ready}
 
 -- a key that the sheet has, over key arrays as long as the sheet says: it and its neighbours are inside
 pub inside-all : {s : List ℕ} {fs vs ss : List Float} (track key : ℕ) → Checked s → length fs ≡ keyCount s → length vs ≡ keyCount s → length ss ≡ keyCount s

@@ -1,5 +1,5 @@
-pub mod Checks
+-- The laws that the proofs of this crate cite.
 pub mod Results
+pub mod Loads
 pub mod Edits
 pub mod Undoes
-pub mod Answers

@@ -1,7 +1,7 @@
 -- What each call gives (document 01, "Playing and editing" and "What a call declines"): the number of the first row of its list that doesn't hold
 -- (specs/Rows), and its step where each does. Definitions only.
 use Prim.Native.Nat.{ℕ}
-use mathlib.Core.Bool.{Bool, true, false, cond}
+use mathlib.Core.Bool.{cond}
 use mathlib.Core.List.{List, []}
 use lib.Dec.{eqb}
 use lib.Ieee.{Float}
@@ -11,42 +11,37 @@ use Rattle.player.specs.declared.Tick.the-variants.{Idle}
 use Rattle.player.specs.declared.journal.Entry.{Entry}
 use Rattle.sheet.specs.Rows.{nextName}
 use Rattle.keys.specs.Load.{loadOf}
-use Rattle.player.specs.Keys.{Keys, keys, keyAt, putKey}
+use Rattle.edit.specs.Keys.{Keys, keys, keyAt, putKey}
 use Rattle.player.specs.Player.{freshPlayer}
-use Rattle.player.specs.View.{viewOf, withView, playView, poseView, tickView, tickAnswer, pickTick}
-use Rattle.player.specs.declared.edit.Request.{Request}
-use Rattle.player.specs.Edit.{place, edited}
-use Rattle.player.specs.Undo.{undoEntry, redoEntry, undoneKeys, redoneKeys, undonePlayer, redonePlayer, editedPlayer}
+use Rattle.player.specs.Parts.{viewOf, withView}
+use Rattle.player.specs.View.{playView, poseView, tickView, tickAnswer}
+use Rattle.edit.specs.declared.request.Request.{Request}
+use Rattle.edit.specs.Edit.{place, edited}
+use Rattle.player.specs.declared.undo.Way.{Way}
+use Rattle.player.specs.declared.undo.Way.the-variants.{Undo, Redo}
+use Rattle.player.specs.Undo.{entryOf, takenKeys, takenPlayer}
+use Rattle.player.specs.Edited.{editedPlayer}
 use Rattle.menu.specs.declared.playing.Played.{Played}
 use Rattle.menu.specs.declared.playing.Ticked.{Ticked}
-use Rattle.menu.specs.Rows.{playTable, poseTable, tickTable, editTable, undoTable, redoTable, nextNameTable}
-
--- the first where the number is 0, and else the second
-abbrev pub pickPlayer : Bool → Player → Player → Player
-pickPlayer true p q = p
-pickPlayer false p q = q
-
-abbrev pub pickKeys : Bool → Keys → Keys → Keys
-pickKeys true p q = p
-pickKeys false p q = q
+use Rattle.menu.specs.Rows.{playTable, poseTable, tickTable, editTable, takeTable, nextNameTable}
 
 unfoldable pub playOf : List ℕ → Player → ℕ → Played
 playOf s p a =
     let n = declines (playTable s p a) in
-    record { refusal = n; player = pickPlayer (eqb n 0) (withView p (playView a (viewOf p))) p }
+    record { refusal = n; player = cond (eqb n 0) (withView p (playView a (viewOf p))) p }
 
 unfoldable pub poseOf : List ℕ → Player → ℕ → Float → Played
 poseOf s p a x =
     let n = declines (poseTable s p x) in
-    record { refusal = n; player = pickPlayer (eqb n 0) (withView p (poseView s a x)) p }
+    record { refusal = n; player = cond (eqb n 0) (withView p (poseView s a x)) p }
 
 unfoldable pub tickOf : List ℕ → Player → Float → Float → Ticked
 tickOf s p dt fps =
     let n = declines (tickTable s p dt fps) in
     record {
       refusal = n;
-      answer = pickTick (eqb n 0) (tickAnswer s dt fps (viewOf p)) Idle;
-      player = pickPlayer (eqb n 0) (withView p (tickView s dt fps (viewOf p))) p;
+      answer = cond (eqb n 0) (tickAnswer s dt fps (viewOf p)) Idle;
+      player = cond (eqb n 0) (withView p (tickView s dt fps (viewOf p))) p;
     }
 
 -- what a call that may change keys gives, and leaves in the three arrays
@@ -60,7 +55,7 @@ abbrev pub gave : Played → Keys → Changed
 gave r ks = record { refusal = r .refusal; player = r .player; keys = ks }
 
 abbrev pub changed : ℕ → Player → Keys → Player → Keys → Changed
-changed n p ks q ls = record { refusal = n; player = pickPlayer (eqb n 0) q p; keys = pickKeys (eqb n 0) ls ks }
+changed n p ks q ls = record { refusal = n; player = cond (eqb n 0) q p; keys = cond (eqb n 0) ls ks }
 
 -- the journal's entry of an edit that is made on ks
 unfoldable pub entryFor : List ℕ → Keys → ℕ → ℕ → Request → Entry
@@ -82,8 +77,12 @@ loadedOf s ks =
 unfoldable pub nextNameOf : List ℕ → ℕ → List ℕ
 nextNameOf s a = cond (eqb (declines (nextNameTable s a)) 0) (nextName s a) []
 
-unfoldable pub undoOf : List ℕ → Player → Keys → Changed
-undoOf s p ks = changed (declines (undoTable s p ks)) p ks (undonePlayer p) (undoneKeys s ks (undoEntry p))
+-- An undo and a redo: the entry is taken.
+unfoldable pub takeOf : Way → List ℕ → Player → Keys → Changed
+takeOf way s p ks = changed (declines (takeTable way s p ks)) p ks (takenPlayer way p) (takenKeys s ks (entryOf way p))
 
-unfoldable pub redoOf : List ℕ → Player → Keys → Changed
-redoOf s p ks = changed (declines (redoTable s p ks)) p ks (redonePlayer p) (redoneKeys s ks (redoEntry p))
+abbrev pub undoOf : List ℕ → Player → Keys → Changed
+undoOf s p ks = takeOf Undo s p ks
+
+abbrev pub redoOf : List ℕ → Player → Keys → Changed
+redoOf s p ks = takeOf Redo s p ks

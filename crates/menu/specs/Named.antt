@@ -3,7 +3,7 @@
 -- that ended. Assumes nothing.
 use Prim.Native.Nat.{ℕ}
 use mathlib.Core.Path.{_≡_, refl, _∙_, ap}
-use mathlib.Core.Bool.{Bool, true, false, not, _&&_}
+use mathlib.Core.Bool.{Bool, true, false, not, _&&_, cond}
 use mathlib.Core.List.{List}
 use native.Mathlib.Omega.{arith}
 use borrow.Author.Tests.{eqb-true}
@@ -15,11 +15,14 @@ use Rattle.sheet.specs.Sheet.{sheetOk}
 use Rattle.sheet.specs.Rows.{nextName}
 use Rattle.player.specs.declared.Player.{Player}
 use Rattle.player.specs.declared.Tick.the-variants.{Idle, Running, Next}
-use Rattle.player.specs.Player.{none, selectionOk}
+use Rattle.edit.specs.Edit.{none}
+use Rattle.player.specs.Player.{selectionOk}
 use Rattle.player.specs.Sound.{sound}
-use Rattle.player.specs.View.{View, viewOf, withView, pickView, pickTick, ticks, tickSum, tickEnds, tickFrame, endOf, tickView, tickAnswer}
-use Rattle.menu.specs.Rows.{playerRows, tickTable, nextNameTable}
-use Rattle.menu.specs.Calls.{pickPlayer, tickOf, nextNameOf}
+use Rattle.player.specs.Parts.{View, viewOf, withView}
+use Rattle.player.specs.View.{ticks, tickSum, tickEnds, tickFrame, endOf, tickView, tickAnswer}
+use Rattle.menu_checks.specs.Rows.{playerRows}
+use Rattle.menu.specs.Rows.{tickTable, nextNameTable}
+use Rattle.menu.specs.Calls.{tickOf, nextNameOf}
 
 -- a name that is not declined is the sheet's field
 pub next-name-is : (s : List ℕ) (a : ℕ) → sheetOk s ≡ true → ltb a (animationCount s) ≡ true → nextNameOf s a ≡ nextName s a
@@ -32,7 +35,7 @@ unfolding tickView
 tick-selects s dt fps v = go (ticks v)
   where
     go : (b : Bool) →
-        pickView b (record { selection = v .selection; playing = not (tickEnds s (v .selection) (tickSum v dt fps)); preview = v .preview; frame = tickFrame s (v .selection) (tickSum v dt fps) }) v .selection
+        cond b (record { selection = v .selection; playing = not (tickEnds s (v .selection) (tickSum v dt fps)); preview = v .preview; frame = tickFrame s (v .selection) (tickSum v dt fps) }) v .selection
         ≡ v .selection
     go true = refl
     go false = refl
@@ -43,7 +46,7 @@ unfolding tickAnswer ticks selectionOk
 ends-selected s dt fps v k e = go (eqb (v .selection) none) refl e
   where
     go : (b : Bool) → eqb (v .selection) none ≡ b
-        → pickTick (not b && v .playing) (pickTick (tickEnds s (v .selection) (tickSum v dt fps)) (endOf s (v .selection)) Running) Idle ≡ Next → ltb (v .selection) (animationCount s) ≡ true
+        → cond (not b && v .playing) (cond (tickEnds s (v .selection) (tickSum v dt fps)) (endOf s (v .selection)) Running) Idle ≡ Next → ltb (v .selection) (animationCount s) ≡ true
     go true q f = let z : _≡_ {A = ℕ} 0 1 = cc in absurd (omega arith)
     go false q f = rw q at k
 
@@ -57,8 +60,8 @@ pub next-after-tick : (s : List ℕ) (p : Player) (dt fps : Float) → tickOf s 
 unfolding tickOf tickTable
 next-after-tick s p dt fps e = go (eqb (declines (tickTable s p dt fps)) 0) refl e
   where
-    go : (b : Bool) → eqb (declines (tickTable s p dt fps)) 0 ≡ b → pickTick b (tickAnswer s dt fps (viewOf p)) Idle ≡ Next
-        → nextNameOf s (pickPlayer b (withView p (tickView s dt fps (viewOf p))) p .selection) ≡ nextName s (p .selection)
+    go : (b : Bool) → eqb (declines (tickTable s p dt fps)) 0 ≡ b → cond b (tickAnswer s dt fps (viewOf p)) Idle ≡ Next
+        → nextNameOf s (cond b (withView p (tickView s dt fps (viewOf p))) p .selection) ≡ nextName s (p .selection)
     go true q f =
         let h = first-held (playerRows s p) _ tt (eqb-true _ 0 q) .0 in
         next-named s dt fps (viewOf p) (h .0) (sound s p (h .1 .0) .selection) f

@@ -1,20 +1,20 @@
 // The edits of one key.
-use crate::check::check_state;
 use crate::playing::Played;
+use edit::NONE;
+use edit::put::put_key;
+use edit::request::Request;
+use edit::request::request_refusal;
+use edit::spot::key_in;
+use edit::spot::spot_of;
 use laws::refusal::ACCEPTED;
 use laws::refusal::NO_ANIMATION;
 use laws::refusal::NO_SUCH_ROW;
-use player::NONE;
+use menu_checks::check_state;
 use player::Player;
-use player::edit::Request;
-use player::edit::key_in;
-use player::edit::put_key;
-use player::edit::request_refusal;
-use player::edit::spot_of;
 use player::journal::Entry;
 ghost use mathlib.Core.Path.{_≡_};
 ghost use Rattle.laws.specs.Rows.{declines};
-ghost use Rattle.player.specs.Keys.{keys};
+ghost use Rattle.edit.specs.Keys.{lent};
 ghost use Rattle.menu.specs.Rows.{editTable};
 ghost use Rattle.menu.specs.Calls.{gave, editOf};
 
@@ -28,7 +28,7 @@ fn edit_refusal(
     key: u16,
     r: Request,
 ) -> u8
-    ensures { λ n. ⌜ n ≡ declines (editTable (now (s .entry)) p (keys (now (frames .entry)) (now (values .entry)) (now (slopes .entry))) track key r) ⌝ }
+    ensures { λ n. ⌜ n ≡ declines (editTable (now (s .entry)) p (lent (frames .entry) (values .entry) (slopes .entry)) track key r) ⌝ }
 {
     let n = check_state(p, s, frames, values, slopes);
     if n != ACCEPTED {
@@ -55,7 +55,7 @@ fn edit(
     key: u16,
     r: Request,
 ) -> Played
-    ensures { λ g. ⌜ gave g (keys (now (frames .exit)) (now (values .exit)) (now (slopes .exit))) ≡ editOf (now (s .entry)) p (keys (now (frames .entry)) (now (values .entry)) (now (slopes .entry))) track key r ⌝ }
+    ensures { λ g. ⌜ gave g (lent (frames .exit) (values .exit) (slopes .exit)) ≡ editOf (now (s .entry)) p (lent (frames .entry) (values .entry) (slopes .entry)) track key r ⌝ }
 {
     let n = edit_refusal(p, s, frames, values, slopes, track, key, r);
     if n != ACCEPTED {
@@ -67,7 +67,7 @@ fn edit(
     let spot = spot_of(s, track as usize, key);
     let at = spot.at;
     let before = curve::key_at(frames, values, slopes, at);
-    let after = player::edit::edited(frames, values, slopes, spot, r);
+    let after = edit::request::edited(frames, values, slopes, spot, r);
     put_key(frames, values, slopes, at, after);
     let e = Entry {
         track,
@@ -93,7 +93,7 @@ pub fn key_edit(
     frame: f32,
     value: f32,
 ) -> Played
-    ensures { λ g. ⌜ gave g (keys (now (frames .exit)) (now (values .exit)) (now (slopes .exit))) ≡ editOf (now (s .entry)) p (keys (now (frames .entry)) (now (values .entry)) (now (slopes .entry))) track key (Request.Key frame value) ⌝ }
+    ensures { λ g. ⌜ gave g (lent (frames .exit) (values .exit) (slopes .exit)) ≡ editOf (now (s .entry)) p (lent (frames .entry) (values .entry) (slopes .entry)) track key (Request.Key frame value) ⌝ }
 {
     edit(
         p,
@@ -118,7 +118,7 @@ pub fn slope_edit(
     key: u16,
     slope: f32,
 ) -> Played
-    ensures { λ g. ⌜ gave g (keys (now (frames .exit)) (now (values .exit)) (now (slopes .exit))) ≡ editOf (now (s .entry)) p (keys (now (frames .entry)) (now (values .entry)) (now (slopes .entry))) track key (Request.Slope slope) ⌝ }
+    ensures { λ g. ⌜ gave g (lent (frames .exit) (values .exit) (slopes .exit)) ≡ editOf (now (s .entry)) p (lent (frames .entry) (values .entry) (slopes .entry)) track key (Request.Slope slope) ⌝ }
 {
     edit(
         p,

@@ -1,11 +1,8 @@
-// The outward interface: each call looks at its rows of the table in their order, then makes its step. No function that is public here asks anything of its caller.
-mod check;
+// Loading, playing and editing: each call looks at its rows of the table in their order, then makes its step. No function here asks anything of its
+// caller.
 mod editing;
 mod loading;
 mod playing;
-mod readings;
-mod shown;
-mod single;
 mod undoing;
 
 pub use editing::key_edit;
@@ -17,15 +14,5 @@ pub use playing::Ticked;
 pub use playing::play;
 pub use playing::pose;
 pub use playing::tick;
-pub use readings::ReadOne;
-pub use readings::ResolvedPane;
-pub use readings::ResolvedSrt;
-pub use readings::read_all;
-pub use shown::cascade;
-pub use shown::texture_name;
-pub use single::read_material;
-pub use single::read_pane;
-pub use single::resolve_pane;
-pub use single::resolve_srt;
 pub use undoing::redo;
 pub use undoing::undo;

@@ -2,12 +2,12 @@
 use crate::playing::Played;
 use player::Player;
 ghost use mathlib.Core.Path.{_≡_};
-ghost use Rattle.player.specs.Keys.{keys};
+ghost use Rattle.edit.specs.Keys.{lent};
 ghost use Rattle.menu.specs.Calls.{gave, loadedOf, nextNameOf};
 
 // The keys of a sheet into three lent arrays, with a fresh player. Refusals 1, 3, 4.
 pub fn load(s: &[u8], frames: &mut [f32], values: &mut [f32], slopes: &mut [f32]) -> Played
-    ensures { λ g. ⌜ gave g (keys (now (frames .exit)) (now (values .exit)) (now (slopes .exit))) ≡ loadedOf (now (s .entry)) (keys (now (frames .entry)) (now (values .entry)) (now (slopes .entry))) ⌝ }
+    ensures { λ g. ⌜ gave g (lent (frames .exit) (values .exit) (slopes .exit)) ≡ loadedOf (now (s .entry)) (lent (frames .entry) (values .entry) (slopes .entry)) ⌝ }
 {
     let n = keys::load_keys(s, frames, values, slopes);
     Played {

@@ -1,9 +1,9 @@
 // Play, pose and tick.
-use crate::check::check_player;
+use edit::NONE;
 use laws::refusal::ACCEPTED;
 use laws::refusal::BAD_ARGUMENT;
 use laws::refusal::NO_ANIMATION;
-use player::NONE;
+use menu_checks::check_player;
 use player::Player;
 use player::Tick;
 ghost use mathlib.Core.Path.{_≡_};
@@ -11,6 +11,8 @@ ghost use Rattle.laws.specs.Rows.{declines};
 ghost use Rattle.menu.specs.Rows.{playTable, poseTable, tickTable};
 ghost use Rattle.menu.specs.Calls.{playOf, poseOf, tickOf};
 
+// A refusal, 0 for none, and the player after the call.
+#[repr(C)]
 pub struct Played {
     pub refusal: u8,
     pub player: Player,

@@ -24,11 +24,13 @@ use Rattle.reading.specs.declared.Active.{Active}
 use Rattle.resolve.specs.Resolve.{rowIn, nameFor, textureOf}
 use Rattle.resolve.specs.Textures.{named-below}
 use Rattle.player.specs.declared.Player.{Player}
-use Rattle.player.specs.Keys.{Keys}
-use Rattle.player.specs.View.{viewOf}
-use Rattle.menu.specs.Rows.{readingRows, layerRows, nextNameTable, textureNameTable}
+use Rattle.edit.specs.Keys.{Keys}
+use Rattle.player.specs.Parts.{viewOf}
+use Rattle.menu_checks.specs.Rows.{readingRows}
+use Rattle.menu_readings.specs.Rows.{layerRows, textureNameTable}
+use Rattle.menu.specs.Rows.{nextNameTable}
 use Rattle.menu.specs.Calls.{nextNameOf}
-use Rattle.menu.specs.Readings.{activeIn, textureNameOf}
+use Rattle.menu_readings.specs.Readings.{activeIn, textureNameOf}
 use Rattle.menu_c.specs.Naming.{nameBytes}
 
 field-long : (s : List ℕ) (i : ℕ) → i + 24 ≤ length s → length (nameAt s i) ≡ nameBytes

@@ -6,10 +6,11 @@ use lib.Dec.{eqb}
 use lib.ListN.{length}
 use Rattle.laws.specs.Rows.{Row, row, declines}
 use Rattle.player.specs.declared.Player.{Player}
-use Rattle.player.specs.Keys.{Keys}
-use Rattle.menu.specs.Rows.{nextNameTable, textureNameTable}
+use Rattle.edit.specs.Keys.{Keys}
+use Rattle.menu.specs.Rows.{nextNameTable}
+use Rattle.menu_readings.specs.Rows.{textureNameTable}
 use Rattle.menu.specs.Calls.{nextNameOf}
-use Rattle.menu.specs.Readings.{textureNameOf}
+use Rattle.menu_readings.specs.Readings.{textureNameOf}
 
 -- a name's field (document 01, "Sheet and book")
 abbrev pub nameBytes : ℕ

@@ -1,14 +1,9 @@
-// Answers as structs of numbers, which pass by value to C.
-use geometry::points::Vector2f;
-use geometry::points::Vector3f;
+// The answers that hold an enum, as structs of numbers, which pass by value to C.
 use player::Player;
-
-// A refusal, 0 for none, and the player after the call.
-#[repr(C)]
-pub struct Played {
-    pub refusal: u8,
-    pub player: Player,
-}
+use player::Tick;
+use reading::Reading;
+ghost use mathlib.Core.Path.{_≡_};
+ghost use Rattle.menu_c.specs.Answers.{tickNumber, tickedOf, kindOf, readOneOf};
 
 // `answer` is 0 idle, 1 running, 2 ended, 3 ended with a next name.
 #[repr(C)]
@@ -26,21 +21,48 @@ pub struct ReadOne {
     pub number: f32,
 }
 
-#[repr(C)]
-pub struct ResolvedPane {
-    pub refusal: u8,
-    pub visible: bool,
-    pub alpha: f32,
-    pub translation: Vector3f,
-    pub rotation: Vector3f,
-    pub scale: Vector2f,
-    pub size: Vector2f,
+fn tick_number(t: Tick) -> u8
+    ensures { λ r. ⌜ r ≡ tickNumber t ⌝ }
+{
+    match t {
+        Tick::Idle => 0,
+        Tick::Running => 1,
+        Tick::Ended => 2,
+        Tick::Next => 3,
+    }
 }
 
-#[repr(C)]
-pub struct ResolvedSrt {
-    pub refusal: u8,
-    pub translate: Vector2f,
-    pub rotate: f32,
-    pub scale: Vector2f,
+pub fn flat_tick(g: menu::Ticked) -> Ticked
+    ensures { λ r. ⌜ r ≡ tickedOf g ⌝ }
+{
+    let answer = g.answer;
+    let player = g.player;
+    Ticked {
+        refusal: g.refusal,
+        answer: tick_number(answer),
+        player,
+    }
+}
+
+fn kind_of(r: Reading) -> u8
+    ensures { λ k. ⌜ k ≡ kindOf r ⌝ }
+{
+    match r {
+        Reading::Nothing => 0,
+        Reading::Number(_) => 1,
+        Reading::Shown(_) => 2,
+        Reading::Row(_) => 3,
+        Reading::Level(_) => 4,
+    }
+}
+
+pub fn flat_reading(g: menu_readings::ReadOne) -> ReadOne
+    ensures { λ r. ⌜ r ≡ readOneOf g ⌝ }
+{
+    let reading = g.reading;
+    ReadOne {
+        refusal: g.refusal,
+        kind: kind_of(reading),
+        number: reading::number_of(reading),
+    }
 }

@@ -1,12 +1,10 @@
 // Edits, undo and redo.
-use crate::answers::Played;
-use crate::flat::played;
+use edit::request::Request;
+use menu::Played;
 use player::Player;
-use player::edit::Request;
 ghost use mathlib.Core.Path.{_≡_};
-ghost use Rattle.player.specs.Keys.{keys};
-ghost use Rattle.menu.specs.Calls.{editOf, undoOf, redoOf};
-ghost use Rattle.menu_c.specs.Answers.{gave};
+ghost use Rattle.edit.specs.Keys.{lent};
+ghost use Rattle.menu.specs.Calls.{gave, editOf, undoOf, redoOf};
 
 #[no_mangle]
 pub extern "C" fn menu_key_edit(
@@ -20,9 +18,9 @@ pub extern "C" fn menu_key_edit(
     frame: f32,
     value: f32,
 ) -> Played
-    ensures { λ r. ⌜ gave r (keys (now (frames .exit)) (now (values .exit)) (now (slopes .exit))) ≡ editOf (now (sheet .entry)) player (keys (now (frames .entry)) (now (values .entry)) (now (slopes .entry))) track key (Request.Key frame value) ⌝ }
+    ensures { λ r. ⌜ gave r (lent (frames .exit) (values .exit) (slopes .exit)) ≡ editOf (now (sheet .entry)) player (lent (frames .entry) (values .entry) (slopes .entry)) track key (Request.Key frame value) ⌝ }
 {
-    played(menu::key_edit(
+    menu::key_edit(
         player,
         sheet,
         frames,
@@ -32,7 +30,7 @@ pub extern "C" fn menu_key_edit(
         key,
         frame,
         value,
-    ))
+    )
 }
 
 #[no_mangle]
@@ -46,9 +44,9 @@ pub extern "C" fn menu_slope_edit(
     key: u16,
     slope: f32,
 ) -> Played
-    ensures { λ r. ⌜ gave r (keys (now (frames .exit)) (now (values .exit)) (now (slopes .exit))) ≡ editOf (now (sheet .entry)) player (keys (now (frames .entry)) (now (values .entry)) (now (slopes .entry))) track key (Request.Slope slope) ⌝ }
+    ensures { λ r. ⌜ gave r (lent (frames .exit) (values .exit) (slopes .exit)) ≡ editOf (now (sheet .entry)) player (lent (frames .entry) (values .entry) (slopes .entry)) track key (Request.Slope slope) ⌝ }
 {
-    played(menu::slope_edit(player, sheet, frames, values, slopes, track, key, slope))
+    menu::slope_edit(player, sheet, frames, values, slopes, track, key, slope)
 }
 
 #[no_mangle]
@@ -59,9 +57,9 @@ pub extern "C" fn menu_undo(
     values: &mut [f32],
     slopes: &mut [f32],
 ) -> Played
-    ensures { λ r. ⌜ gave r (keys (now (frames .exit)) (now (values .exit)) (now (slopes .exit))) ≡ undoOf (now (sheet .entry)) player (keys (now (frames .entry)) (now (values .entry)) (now (slopes .entry))) ⌝ }
+    ensures { λ r. ⌜ gave r (lent (frames .exit) (values .exit) (slopes .exit)) ≡ undoOf (now (sheet .entry)) player (lent (frames .entry) (values .entry) (slopes .entry)) ⌝ }
 {
-    played(menu::undo(player, sheet, frames, values, slopes))
+    menu::undo(player, sheet, frames, values, slopes)
 }
 
 #[no_mangle]
@@ -72,7 +70,7 @@ pub extern "C" fn menu_redo(
     values: &mut [f32],
     slopes: &mut [f32],
 ) -> Played
-    ensures { λ r. ⌜ gave r (keys (now (frames .exit)) (now (values .exit)) (now (slopes .exit))) ≡ redoOf (now (sheet .entry)) player (keys (now (frames .entry)) (now (values .entry)) (now (slopes .entry))) ⌝ }
+    ensures { λ r. ⌜ gave r (lent (frames .exit) (values .exit) (slopes .exit)) ≡ redoOf (now (sheet .entry)) player (lent (frames .entry) (values .entry) (slopes .entry)) ⌝ }
 {
-    played(menu::redo(player, sheet, frames, values, slopes))
+    menu::redo(player, sheet, frames, values, slopes)
 }

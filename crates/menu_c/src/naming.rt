@@ -6,9 +6,10 @@ use laws::refusal::SHEET_LAYOUT;
 use player::Player;
 ghost use mathlib.Core.Path.{_≡_};
 ghost use lib.ListN.{length};
-ghost use Rattle.player.specs.Keys.{keys};
+ghost use Rattle.edit.specs.Keys.{lent};
 ghost use Rattle.laws.specs.Rows.{declines};
-ghost use Rattle.menu.specs.Rows.{nextNameTable, textureNameTable};
+ghost use Rattle.menu.specs.Rows.{nextNameTable};
+ghost use Rattle.menu_readings.specs.Rows.{textureNameTable};
 ghost use Rattle.menu_c.specs.Naming.{nameBytes, gaveName, nameRows, nameInto, nextNameInto, textureNameInto};
 
 // A name's field.
@@ -60,10 +61,10 @@ fn slot_refusal(
     material: u16,
     slot: u16,
 ) -> u8
-    ensures { λ n. ⌜ n ≡ declines (textureNameTable (now (s .entry)) (now (b .entry)) p (keys (now (frames .entry)) (now (values .entry)) (now (slopes .entry))) material slot) ⌝ }
+    ensures { λ n. ⌜ n ≡ declines (textureNameTable (now (s .entry)) (now (b .entry)) p (lent (frames .entry) (values .entry) (slopes .entry)) material slot) ⌝ }
 {
     let c = channel::slot_channel(slot);
-    let g = menu::read_material(p, s, b, frames, values, slopes, material, c);
+    let g = menu_readings::read_material(p, s, b, frames, values, slopes, material, c);
     g.refusal
 }
 
@@ -80,14 +81,14 @@ pub extern "C" fn menu_texture_name<'a>(
     slot: u16,
     out: &mut [u8],
 ) -> u8
-    ensures { λ r. ⌜ gaveName r (now (out .exit)) ≡ textureNameInto (now (sheet .entry)) (now (book .entry)) player (keys (now (frames .entry)) (now (values .entry)) (now (slopes .entry))) material slot (now (out .entry)) ⌝ }
+    ensures { λ r. ⌜ gaveName r (now (out .exit)) ≡ textureNameInto (now (sheet .entry)) (now (book .entry)) player (lent (frames .entry) (values .entry) (slopes .entry)) material slot (now (out .entry)) ⌝ }
 {
     let n = slot_refusal(player, sheet, book, frames, values, slopes, material, slot);
     if n != ACCEPTED {
         return n;
     }
     hand_out(
-        menu::texture_name(player, sheet, book, frames, values, slopes, material, slot),
+        menu_readings::texture_name(player, sheet, book, frames, values, slopes, material, slot),
         out,
     )
 }

@@ -1,15 +1,13 @@
 // The readings: one channel, all channels, resolving, and the cascade.
 use crate::answers::ReadOne;
-use crate::answers::ResolvedPane;
-use crate::answers::ResolvedSrt;
-use crate::flat::read_one;
-use crate::flat::resolved_pane;
-use crate::flat::resolved_srt;
+use crate::answers::flat_reading;
+use menu_readings::ResolvedPane;
+use menu_readings::ResolvedSrt;
 use player::Player;
 ghost use mathlib.Core.Path.{_≡_};
-ghost use Rattle.player.specs.Keys.{keys};
-ghost use Rattle.menu.specs.Readings.{readPaneOf, readMaterialOf, gaveTables, readAllOf, resolvePaneOf, resolveSrtOf, gaveCascade, cascadeOf};
-ghost use Rattle.menu_c.specs.Answers.{readOneOf, resolvedPaneOf, resolvedSrtOf};
+ghost use Rattle.edit.specs.Keys.{lent};
+ghost use Rattle.menu_readings.specs.Readings.{readPaneOf, readMaterialOf, gaveTables, readAllOf, resolvePaneOf, resolveSrtOf, gaveCascade, cascadeOf};
+ghost use Rattle.menu_c.specs.Answers.{readOneOf};
 
 #[no_mangle]
 pub extern "C" fn menu_read_pane(
@@ -22,9 +20,18 @@ pub extern "C" fn menu_read_pane(
     pane: u16,
     channel: u16,
 ) -> ReadOne
-    ensures { λ r. ⌜ r ≡ readOneOf (readPaneOf (now (sheet .entry)) (now (book .entry)) player (keys (now (frames .entry)) (now (values .entry)) (now (slopes .entry))) pane channel) ⌝ }
+    ensures { λ r. ⌜ r ≡ readOneOf (readPaneOf (now (sheet .entry)) (now (book .entry)) player (lent (frames .entry) (values .entry) (slopes .entry)) pane channel) ⌝ }
 {
-    read_one(menu::read_pane(player, sheet, book, frames, values, slopes, pane, channel))
+    flat_reading(menu_readings::read_pane(
+        player,
+        sheet,
+        book,
+        frames,
+        values,
+        slopes,
+        pane,
+        channel,
+    ))
 }
 
 #[no_mangle]
@@ -38,9 +45,9 @@ pub extern "C" fn menu_read_material(
     material: u16,
     channel: u16,
 ) -> ReadOne
-    ensures { λ r. ⌜ r ≡ readOneOf (readMaterialOf (now (sheet .entry)) (now (book .entry)) player (keys (now (frames .entry)) (now (values .entry)) (now (slopes .entry))) material channel) ⌝ }
+    ensures { λ r. ⌜ r ≡ readOneOf (readMaterialOf (now (sheet .entry)) (now (book .entry)) player (lent (frames .entry) (values .entry) (slopes .entry)) material channel) ⌝ }
 {
-    read_one(menu::read_material(
+    flat_reading(menu_readings::read_material(
         player,
         sheet,
         book,
@@ -63,9 +70,9 @@ pub extern "C" fn menu_read_all(
     marks: &mut [u8],
     numbers: &mut [f32],
 ) -> u8
-    ensures { λ n. ⌜ gaveTables n (now (marks .exit)) (now (numbers .exit)) ≡ readAllOf (now (sheet .entry)) (now (book .entry)) player (keys (now (frames .entry)) (now (values .entry)) (now (slopes .entry))) (now (marks .entry)) (now (numbers .entry)) ⌝ }
+    ensures { λ n. ⌜ gaveTables n (now (marks .exit)) (now (numbers .exit)) ≡ readAllOf (now (sheet .entry)) (now (book .entry)) player (lent (frames .entry) (values .entry) (slopes .entry)) (now (marks .entry)) (now (numbers .entry)) ⌝ }
 {
-    menu::read_all(player, sheet, book, frames, values, slopes, marks, numbers)
+    menu_readings::read_all(player, sheet, book, frames, values, slopes, marks, numbers)
 }
 
 #[no_mangle]
@@ -78,9 +85,9 @@ pub extern "C" fn menu_resolve_pane(
     slopes: &[f32],
     pane: u16,
 ) -> ResolvedPane
-    ensures { λ r. ⌜ r ≡ resolvedPaneOf (resolvePaneOf (now (sheet .entry)) (now (book .entry)) player (keys (now (frames .entry)) (now (values .entry)) (now (slopes .entry))) pane) ⌝ }
+    ensures { λ r. ⌜ r ≡ resolvePaneOf (now (sheet .entry)) (now (book .entry)) player (lent (frames .entry) (values .entry) (slopes .entry)) pane ⌝ }
 {
-    resolved_pane(menu::resolve_pane(player, sheet, book, frames, values, slopes, pane))
+    menu_readings::resolve_pane(player, sheet, book, frames, values, slopes, pane)
 }
 
 #[no_mangle]
@@ -94,9 +101,9 @@ pub extern "C" fn menu_resolve_srt(
     material: u16,
     layer: u16,
 ) -> ResolvedSrt
-    ensures { λ r. ⌜ r ≡ resolvedSrtOf (resolveSrtOf (now (sheet .entry)) (now (book .entry)) player (keys (now (frames .entry)) (now (values .entry)) (now (slopes .entry))) material layer) ⌝ }
+    ensures { λ r. ⌜ r ≡ resolveSrtOf (now (sheet .entry)) (now (book .entry)) player (lent (frames .entry) (values .entry) (slopes .entry)) material layer ⌝ }
 {
-    resolved_srt(menu::resolve_srt(player, sheet, book, frames, values, slopes, material, layer))
+    menu_readings::resolve_srt(player, sheet, book, frames, values, slopes, material, layer)
 }
 
 #[no_mangle]
@@ -111,9 +118,9 @@ pub extern "C" fn menu_cascade(
     alpha: &mut [f32],
     influence: &mut [f32],
 ) -> u8
-    ensures { λ n. ⌜ gaveCascade n (now (visible .exit)) (now (alpha .exit)) (now (influence .exit)) ≡ cascadeOf (now (sheet .entry)) (now (book .entry)) player (keys (now (frames .entry)) (now (values .entry)) (now (slopes .entry))) (now (visible .entry)) (now (alpha .entry)) (now (influence .entry)) ⌝ }
+    ensures { λ n. ⌜ gaveCascade n (now (visible .exit)) (now (alpha .exit)) (now (influence .exit)) ≡ cascadeOf (now (sheet .entry)) (now (book .entry)) player (lent (frames .entry) (values .entry) (slopes .entry)) (now (visible .entry)) (now (alpha .entry)) (now (influence .entry)) ⌝ }
 {
-    menu::cascade(
+    menu_readings::cascade(
         player,
         sheet,
         book,

@@ -1,4 +1,4 @@
 // The command line: what its arguments ask is answered on standard output; `menu_cli help` says what there is.
 fn main() {
-    console::start();
+    cli_console::start();
 }

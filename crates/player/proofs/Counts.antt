@@ -7,7 +7,8 @@ use borrow.Author.Tests.{le-leb, lt-leb, leb-true, eqb-true}
 use lib.Dec.{leb, eqb}
 use Rattle.laws.specs.Tests.{both}
 use Rattle.player.specs.declared.Player.{Player}
-use Rattle.player.specs.Player.{rows, most, countsOk}
+use Rattle.player.specs.Journal.{rows}
+use Rattle.player.specs.Player.{most, countsOk}
 
 module _ (reach redo accepted undone redone standing : ℕ) where
   pub no-room : rows < reach + redo → false ≡ countsOk reach redo accepted undone redone standing

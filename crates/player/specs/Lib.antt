@@ -1,14 +1,12 @@
-pub mod Keys
+-- The player, its journal and its state.
 pub mod Journal
+pub mod Parts
 pub mod Player
 pub mod View
 pub mod Ticked
-pub mod Edit
-pub mod Spot
+pub mod Edited
 pub mod Undo
 pub mod Counts
 pub mod Sound
-pub mod Put
-pub mod Accepted
-pub mod Edits
 pub mod Takes
+pub mod Room

@@ -1,53 +1,29 @@
 -- The player's state (document 01, "Playing and editing"), and when it is broken (row 5 of the table). Assumes nothing.
-use Prim.Native.Nat.{ℕ, _+_, _-_, _^_, _≤_, _<_}
-use mathlib.Core.Bool.{Bool, true, false, _&&_, _||_}
+use Prim.Native.Nat.{ℕ, _+_, _-_, _^_}
+use mathlib.Core.Bool.{Bool, _&&_, _||_}
 use mathlib.Core.List.{List}
 use lib.Dec.{eqb, leb, ltb}
-use lib.Ieee.{Float}
-use Rattle.float.specs.Numbers.{zero', finite}
+use Rattle.float.specs.Numbers.{finite}
 use Rattle.laws.specs.Below.{allBelow}
-use Rattle.sheet.specs.Sizes.{animationCount, targetCount}
-use Rattle.sheet.specs.Rows.{targetRow}
+use Rattle.sheet.specs.Sizes.{animationCount}
+use Rattle.edit.specs.Edit.{none, hasKey}
 use Rattle.player.specs.declared.Player.{Player}
 use Rattle.player.specs.declared.journal.Entry.{Entry}
 use Rattle.player.specs.declared.journal.Journal.{Journal}
-use Rattle.player.specs.Journal.{emptyJournal, rowOf}
+use Rattle.player.specs.Journal.{rows, emptyJournal, rowOf}
+use Rattle.player.specs.Parts.{playerOf, noView}
 
--- the number that selects nothing
-abbrev pub none : ℕ
-none = 65535
-
--- how many edits a journal holds, and how high a count goes
-abbrev pub rows : ℕ
-rows = 128
-
+-- how high a count goes
 abbrev pub most : ℕ
 most = 2 ^ 40
 
 -- A fresh player has nothing selected, frame +0, not playing, preview off, all counts 0.
 unfoldable pub freshPlayer : Player
-freshPlayer =
-    record {
-      selection = none;
-      playing = false;
-      preview = false;
-      frame = zero';
-      reach = 0;
-      redo = 0;
-      accepted = 0;
-      undone = 0;
-      redone = 0;
-      standing = 0;
-      journal = emptyJournal;
-    }
+freshPlayer = playerOf noView (record { reach = 0; redo = 0; accepted = 0; undone = 0; redone = 0; standing = 0; journal = emptyJournal })
 
 -- a selection: nothing, or one of the animations
 unfoldable pub selectionOk : List ℕ → ℕ → Bool
 selectionOk s selection = eqb selection none || ltb selection (animationCount s)
-
--- the sheet has the track, and the track the key
-unfoldable pub hasKey : List ℕ → ℕ → ℕ → Bool
-hasKey s track key = ltb track (targetCount s) && ltb key (targetRow s track .count)
 
 -- an entry names a track and one of its keys
 abbrev pub entryOk : List ℕ → Entry → Bool

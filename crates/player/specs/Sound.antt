@@ -11,8 +11,9 @@ use Rattle.laws.specs.Below.{allBelow, all-at}
 use Rattle.float.specs.Numbers.{finite}
 use Rattle.sheet.specs.Sizes.{animationCount}
 use Rattle.player.specs.declared.Player.{Player}
-use Rattle.player.specs.Journal.{rowOf}
-use Rattle.player.specs.Player.{none, rows, most, selectionOk, entryOk, usedOk, countsOk, playerOk}
+use Rattle.player.specs.Journal.{rowOf, rows}
+use Rattle.edit.specs.Edit.{none}
+use Rattle.player.specs.Player.{most, selectionOk, entryOk, usedOk, countsOk, playerOk}
 
 pub record Counts (reach redo accepted undone redone standing : ℕ) : Type 0 where
   pub room : reach + redo ≤ rows

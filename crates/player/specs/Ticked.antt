@@ -12,8 +12,9 @@ use Rattle.sheet.specs.Sizes.{animationCount}
 use Rattle.sheet.specs.Checked.{Checked}
 use Rattle.player.specs.declared.Player.{Player}
 use Rattle.player.specs.declared.playing.Stepped.{Stepped}
-use Rattle.player.specs.Player.{none}
-use Rattle.player.specs.View.{viewOf, withView, ticks, tickSum, tickFrame, tickMoves, tickView, tickAnswer}
+use Rattle.edit.specs.Edit.{none}
+use Rattle.player.specs.Parts.{viewOf, withView}
+use Rattle.player.specs.View.{ticks, tickSum, tickFrame, tickMoves, tickView, tickAnswer}
 
 abbrev pub steppedOf : List ℕ → Player → Float → Float → Stepped
 steppedOf s p dt fps = record { answer = tickAnswer s dt fps (viewOf p); player = withView p (tickView s dt fps (viewOf p)) }

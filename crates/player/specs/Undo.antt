@@ -1,73 +1,61 @@
 -- Undo and redo (document 01, "Playing and editing"): the entry that each takes, when it may not be taken (rows 5 and 11 of the table), and the
--- counts after it; and the journal and counts after an accepted edit. Assumes nothing.
-use Prim.Native.Nat.{ℕ, _+_, _-_, min}
+-- counts after it. Both are one step over an entry, whose key must be as the entry finds it and is then as the entry leaves it. Definitions only.
+use Prim.Native.Nat.{ℕ, _+_, _-_}
 use mathlib.Core.Bool.{Bool, not, _&&_, _||_}
 use mathlib.Core.List.{List, [], _∷_}
 use lib.Dec.{eqb}
 use Rattle.laws.specs.Rows.{Row, row}
-use Rattle.float.specs.Numbers.{sameBits}
-use Rattle.keys.specs.Keys.{keysOk}
-use Rattle.curve.specs.declared.Key.{Key}
+use Rattle.edit.specs.Keys.{Keys, keyAt, putKey, keysOkOf, sameKey}
+use Rattle.edit.specs.Edit.{place}
 use Rattle.player.specs.declared.Player.{Player}
 use Rattle.player.specs.declared.journal.Entry.{Entry}
-use Rattle.player.specs.Keys.{Keys, keyAt, putKey}
-use Rattle.player.specs.Journal.{rowOf, withRow}
-use Rattle.player.specs.Player.{rows}
-use Rattle.player.specs.Edit.{place}
+use Rattle.player.specs.declared.undo.Way.{Way}
+use Rattle.player.specs.declared.undo.Way.the-variants.{Undo, Redo}
+use Rattle.player.specs.Journal.{rowOf}
+use Rattle.player.specs.Parts.{withEdits}
 
--- bit for bit
-unfoldable pub sameKey : Key → Key → Bool
-sameKey a b = sameBits (a .frame) (b .frame) && sameBits (a .value) (b .value) && sameBits (a .slope) (b .slope)
+-- how many entries there are to take
+abbrev pub entriesOf : Way → ℕ → ℕ → ℕ
+entriesOf Undo reach redo = reach
+entriesOf Redo reach redo = redo
 
-abbrev pub keysOkOf : List ℕ → Keys → Bool
-keysOkOf s ks = keysOk s (ks .frames) (ks .values) (ks .slopes)
+abbrev pub entries : Way → Player → ℕ
+entries way p = entriesOf way (p .reach) (p .redo)
 
--- the entry that an undo takes, and the one that a redo takes
-unfoldable pub undoEntry : Player → Entry
-undoEntry p = rowOf (p .journal) (p .standing - 1)
+-- an entry that finds the key as this one leaves it, and leaves it as this one finds it
+abbrev pub turned : Entry → Entry
+turned e = record { track = e .track; key = e .key; before = e .after; after = e .before }
 
-unfoldable pub redoEntry : Player → Entry
-redoEntry p = rowOf (p .journal) (p .standing)
+-- the entry that is taken: the last standing edit's, turned; the one of the edit that was undone last
+unfoldable pub entryOf : Way → Player → Entry
+entryOf Undo p = turned (rowOf (p .journal) (p .standing - 1))
+entryOf Redo p = rowOf (p .journal) (p .standing)
 
--- row 5: the entry's key is `now` bit for bit, and with `back` in its place the keys keep the key rules
-unfoldable pub returnsOk : List ℕ → Keys → Entry → Key → Key → Bool
-returnsOk s ks e now back =
-    sameKey (keyAt ks (place s (e .track) (e .key))) now
-    && keysOkOf s (putKey ks (place s (e .track) (e .key)) back)
+-- the entry's key is, bit for bit, as the entry finds it, and the keys with what it leaves in its place keep the key rules
+unfoldable pub takesOk : List ℕ → Keys → Entry → Bool
+takesOk s ks e = sameKey (keyAt ks (place s (e .track) (e .key))) (e .before) && keysOkOf s (putKey ks (place s (e .track) (e .key)) (e .after))
 
--- row 5 of an undo, and of a redo: there is no entry to take, or its key may come back
-unfoldable pub undoFits : List ℕ → Player → Keys → Bool
-undoFits s p ks = eqb (p .reach) 0 || returnsOk s ks (undoEntry p) (undoEntry p .after) (undoEntry p .before)
-
-unfoldable pub redoFits : List ℕ → Player → Keys → Bool
-redoFits s p ks = eqb (p .redo) 0 || returnsOk s ks (redoEntry p) (redoEntry p .before) (redoEntry p .after)
+-- row 5 of an undo and a redo, of n entries, e the first: there is none to take, or it may be taken
+unfoldable pub takeFits : List ℕ → Keys → ℕ → Entry → Bool
+takeFits s ks n e = eqb n 0 || takesOk s ks e
 
 -- row 11: of n entries, one can be taken
-abbrev pub takeRows : ℕ → List Row
-takeRows n = row 11 (not (eqb n 0)) ∷ []
+abbrev pub someRows : ℕ → List Row
+someRows n = row 11 (not (eqb n 0)) ∷ []
 
--- rows 5 and 11 of an undo, and of a redo, of a player whose state is not broken
-unfoldable pub undoRows : List ℕ → Player → Keys → List Row
-undoRows s p ks = row 5 (undoFits s p ks) ∷ takeRows (p .reach)
+-- both rows, of a player whose state is not broken
+unfoldable pub takeRows : Way → List ℕ → Player → Keys → List Row
+takeRows way s p ks = row 5 (takeFits s ks (entries way p) (entryOf way p)) ∷ someRows (entries way p)
 
-unfoldable pub redoRows : List ℕ → Player → Keys → List Row
-redoRows s p ks = row 5 (redoFits s p ks) ∷ takeRows (p .redo)
-
--- the keys with an entry's key put back, or made again
-unfoldable pub undoneKeys : List ℕ → Keys → Entry → Keys
-undoneKeys s ks e = putKey ks (place s (e .track) (e .key)) (e .before)
-
-unfoldable pub redoneKeys : List ℕ → Keys → Entry → Keys
-redoneKeys s ks e = putKey ks (place s (e .track) (e .key)) (e .after)
+-- the keys with an entry taken
+unfoldable pub takenKeys : List ℕ → Keys → Entry → Keys
+takenKeys s ks e = putKey ks (place s (e .track) (e .key)) (e .after)
 
 -- Undo: reach − 1, undone + 1; one edit less stands, and one more can be made again.
 unfoldable pub undonePlayer : Player → Player
 undonePlayer p =
-    record {
-      selection = p .selection;
-      playing = p .playing;
-      preview = p .preview;
-      frame = p .frame;
+    withEdits p
+    (record {
       reach = p .reach - 1;
       redo = p .redo + 1;
       accepted = p .accepted;
@@ -75,16 +63,13 @@ undonePlayer p =
       redone = p .redone;
       standing = p .standing - 1;
       journal = p .journal;
-    }
+    })
 
 -- Redo: reach + 1, redone + 1.
 unfoldable pub redonePlayer : Player → Player
 redonePlayer p =
-    record {
-      selection = p .selection;
-      playing = p .playing;
-      preview = p .preview;
-      frame = p .frame;
+    withEdits p
+    (record {
       reach = p .reach + 1;
       redo = p .redo - 1;
       accepted = p .accepted;
@@ -92,25 +77,8 @@ redonePlayer p =
       redone = p .redone + 1;
       standing = p .standing + 1;
       journal = p .journal;
-    }
+    })
 
--- one more edit that can be undone, up to 128
-abbrev pub oneMore : ℕ → ℕ
-oneMore reach = min (reach + 1) rows
-
--- Accepted edit: reach + 1 up to 128, redo emptied, accepted + 1; its entry goes into the journal.
-unfoldable pub editedPlayer : Player → Entry → Player
-editedPlayer p e =
-    record {
-      selection = p .selection;
-      playing = p .playing;
-      preview = p .preview;
-      frame = p .frame;
-      reach = oneMore (p .reach);
-      redo = 0;
-      accepted = p .accepted + 1;
-      undone = p .undone;
-      redone = p .redone;
-      standing = p .standing + 1;
-      journal = withRow (p .journal) (p .standing) e;
-    }
+abbrev pub takenPlayer : Way → Player → Player
+takenPlayer Undo p = undonePlayer p
+takenPlayer Redo p = redonePlayer p

@@ -8,52 +8,18 @@ use lib.Ieee.{Float, binary32, le, lt, rem, ofInt}
 use Rattle.float.specs.Numbers.{zero', _⊕_, _⊗_, finite}
 use Rattle.sheet.specs.Sizes.{animationCount}
 use Rattle.sheet.specs.Rows.{animationRow}
-use Rattle.player.specs.declared.Player.{Player}
 use Rattle.player.specs.declared.Tick.{Tick}
 use Rattle.player.specs.declared.Tick.the-variants.{Idle, Running, Ended, Next}
-use Rattle.player.specs.Player.{none}
-
-pub record View : Type 0 where
-  pub selection : ℕ
-  pub playing : Bool
-  pub preview : Bool
-  pub frame : Float
-
-abbrev pub viewOf : Player → View
-viewOf p = record { selection = p .selection; playing = p .playing; preview = p .preview; frame = p .frame }
-
--- the player with another view
-abbrev pub withView : Player → View → Player
-withView p v =
-    record {
-      selection = v .selection;
-      playing = v .playing;
-      preview = v .preview;
-      frame = v .frame;
-      reach = p .reach;
-      redo = p .redo;
-      accepted = p .accepted;
-      undone = p .undone;
-      redone = p .redone;
-      standing = p .standing;
-      journal = p .journal;
-    }
-
-abbrev pub pickView : Bool → View → View → View
-pickView true v w = v
-pickView false v w = w
-
--- nothing is selected
-abbrev pub noView : View
-noView = record { selection = none; playing = false; preview = false; frame = zero' }
+use Rattle.edit.specs.Edit.{none}
+use Rattle.player.specs.Parts.{View, noView}
 
 -- Play: the animation from frame +0, playing, preview on; play of none does nothing.
 unfoldable pub playView : ℕ → View → View
-playView a v = pickView (eqb a none) v (record { selection = a; playing = true; preview = true; frame = zero' })
+playView a v = cond (eqb a none) v (record { selection = a; playing = true; preview = true; frame = zero' })
 
 -- Pose: the animation at the frame, not playing, preview on; pose of none, or from A up, clears the selection and sets frame to +0.
 unfoldable pub poseView : List ℕ → ℕ → Float → View
-poseView s a x = pickView (ltb a (animationCount s)) (record { selection = a; playing = false; preview = true; frame = x }) noView
+poseView s a x = cond (ltb a (animationCount s)) (record { selection = a; playing = false; preview = true; frame = x }) noView
 
 -- ---- tick
 
@@ -83,23 +49,19 @@ tickEnds s a sum = le (countOf s a) sum && not (wraps s a)
 unfoldable pub tickMoves : List ℕ → View → Float → Float → Bool
 tickMoves s v dt fps = not (ticks v) || finite (tickSum v dt fps) && finite (tickFrame s (v .selection) (tickSum v dt fps))
 
-abbrev pub pickTick : Bool → Tick → Tick → Tick
-pickTick true a b = a
-pickTick false a b = b
-
 -- how an animation ends
 unfoldable pub endOf : List ℕ → ℕ → Tick
-endOf s a = pickTick (animationRow s a .next) Next Ended
+endOf s a = cond (animationRow s a .next) Next Ended
 
 -- where a playing tick leaves the view, and what a tick answers
 unfoldable pub tickView : List ℕ → Float → Float → View → View
 tickView s dt fps v =
-    pickView (ticks v)
+    cond (ticks v)
     (record { selection = v .selection; playing = not (tickEnds s (v .selection) (tickSum v dt fps)); preview = v .preview; frame = tickFrame s (v .selection) (tickSum v dt fps) })
     v
 
 unfoldable pub tickAnswer : List ℕ → Float → Float → View → Tick
 tickAnswer s dt fps v =
-    pickTick (ticks v)
-    (pickTick (tickEnds s (v .selection) (tickSum v dt fps)) (endOf s (v .selection)) Running)
+    cond (ticks v)
+    (cond (tickEnds s (v .selection) (tickSum v dt fps)) (endOf s (v .selection)) Running)
     Idle

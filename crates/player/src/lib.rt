@@ -1,17 +1,14 @@
 // The player: what is selected and shown, and the journal of the edits that can be undone and redone.
-pub mod edit;
-pub mod fits;
+pub mod editing;
 pub mod journal;
 pub mod playing;
 pub mod state;
 pub mod undo;
 
+use edit::NONE;
 use journal::Journal;
 ghost use mathlib.Core.Path.{_≡_};
 ghost use Rattle.player.specs.Player.{freshPlayer};
-
-// The number that selects nothing.
-pub const NONE: u16 = 65535;
 
 // `selection` is an animation's number, or NONE. `reach` is how many standing edits can be undone, `redo` how many undone ones can be made
 // again; `standing` counts the edits that stand. Numbers and arrays only, so that the struct passes by value to Rust and C.

@@ -1,13 +1,14 @@
 // Play, pose and tick: they move the selection, the frame, playing and preview, and nothing else.
-use crate::NONE;
 use crate::Player;
 use crate::Tick;
+use edit::NONE;
 use float::is_finite;
 ghost use mathlib.Core.Path.{_≡_};
 ghost use Prim.Native.Nat.{_<_};
 ghost use Rattle.sheet.specs.Sizes.{animationCount};
 ghost use Rattle.sheet.specs.Checked.{Checked};
-ghost use Rattle.player.specs.View.{viewOf, withView, playView, poseView, ticks, tickSum, countOf, wraps, tickFrame, tickMoves, tickEnds, endOf};
+ghost use Rattle.player.specs.Parts.{viewOf, withView};
+ghost use Rattle.player.specs.View.{playView, poseView, ticks, tickSum, countOf, wraps, tickFrame, tickMoves, tickEnds, endOf};
 ghost use Rattle.player.specs.Ticked.{steppedOf, Selected};
 
 // What a tick answers, and the player after it.

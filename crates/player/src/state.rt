@@ -1,11 +1,11 @@
 // Whether a player's state is broken: row 5 of the table of refusals, as far as it looks at the player alone.
-use crate::NONE;
 use crate::Player;
-use crate::edit::has_key;
 use crate::journal::Journal;
 use crate::journal::ROWS;
+use edit::NONE;
+use edit::spot::has_key;
 ghost use mathlib.Core.Path.{_≡_};
-ghost use Prim.Native.Nat.{_+_, _≤_, _<_, _^_};
+ghost use Prim.Native.Nat.{_+_, _<_, _^_};
 ghost use Rattle.laws.specs.Below.{allBelow};
 ghost use Rattle.sheet.specs.Checked.{Checked};
 ghost use Rattle.player.specs.Player.{selectionOk, countsOk, usedOk, playerOk};

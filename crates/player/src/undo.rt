@@ -1,37 +1,93 @@
-// Undo and redo: the entry that each takes, and the journal and counts after an edit, an undo and a redo.
+// Undo and redo: the entry that each takes, and the counts after it. Both are one step over an entry.
 use crate::Player;
 use crate::journal::Entry;
-use crate::journal::ROWS;
-use curve::Key;
+use edit::put::fits_at;
+use edit::put::same_key;
+use edit::spot::spot_of;
 ghost use mathlib.Core.Path.{_≡_};
-ghost use Prim.Native.Nat.{_≤_, _<_, _^_};
-ghost use Rattle.player.specs.Undo.{sameKey, undoEntry, redoEntry, undonePlayer, redonePlayer, editedPlayer, oneMore};
-ghost use Rattle.player.specs.Counts.{CanUndo, CanRedo, CanEdit};
+ghost use Prim.Native.Nat.{_-_};
+ghost use Rattle.edit.specs.Keys.{lent};
+ghost use Rattle.player.specs.Undo.{entriesOf, turned, entryOf, takesOk, takeFits, undonePlayer, redonePlayer, takenPlayer};
+ghost use Rattle.player.specs.Counts.{CanUndo, CanRedo, CanTake};
+ghost use Rattle.player.specs.Takes.{Returnable, Takeable};
 
-// Bit for bit.
-pub fn same_key(a: Key, b: Key) -> bool
-    ensures { λ r. ⌜ r ≡ sameKey a b ⌝ }
+// Which way an entry is taken.
+pub enum Way {
+    Undo,
+    Redo,
+}
+
+impl Entry {
+    // An entry that finds the key as this one leaves it, and leaves it as this one finds it.
+    fn turned(self) -> Entry
+        ensures { λ r. ⌜ r ≡ turned self ⌝ }
+    {
+        let before = self.after;
+        let after = self.before;
+        Entry {
+            track: self.track,
+            key: self.key,
+            before,
+            after,
+        }
+    }
+}
+
+// Whether an entry may be taken: its key is, bit for bit, as the entry finds it, and may stand there as the entry leaves it.
+fn takes_ok(s: &[u8], frames: &[f32], values: &[f32], slopes: &[f32], e: Entry) -> bool
+    requires { ⌜ Returnable (now s) (lent frames values slopes) e ⌝ }
+    ensures { λ r. ⌜ r ≡ takesOk (now (s .entry)) (lent (frames .entry) (values .entry) (slopes .entry)) e ⌝ }
 {
-    float::same_bits(a.frame, b.frame)
-        & float::same_bits(a.value, b.value)
-        & float::same_bits(a.slope, b.slope)
+    let p = spot_of(s, e.track as usize, e.key);
+    if !same_key(curve::key_at(frames, values, slopes, p.at), e.before) {
+        return false;
+    }
+    fits_at(frames, p, e.after)
+}
+
+// How many entries there are to take.
+pub fn entries(way: Way, reach: u64, redo: u64) -> u64
+    ensures { λ r. ⌜ r ≡ entriesOf way reach redo ⌝ }
+{
+    match way {
+        Way::Undo => reach,
+        Way::Redo => redo,
+    }
+}
+
+// Row 5 of an undo or a redo that takes e, the first of n entries: there is none, or it may be taken.
+pub fn take_fits(s: &[u8], frames: &[f32], values: &[f32], slopes: &[f32], n: u64, e: Entry) -> bool
+    requires { ⌜ Takeable (now s) (lent frames values slopes) n e ⌝ }
+    ensures { λ r. ⌜ r ≡ takeFits (now (s .entry)) (lent (frames .entry) (values .entry) (slopes .entry)) n e ⌝ }
+{
+    if n == 0 {
+        return true;
+    }
+    takes_ok(s, frames, values, slopes, e)
+}
+
+// The number of the last of n edits, or 0 where there is none.
+fn last_of(n: u64) -> u64
+    ensures { λ r. ⌜ r ≡ n - 1 ⌝ }
+{
+    if n == 0 {
+        return 0;
+    }
+    n - 1
 }
 
 impl Player {
-    pub fn undo_entry(self) -> Entry
-        requires { ⌜ 1 ≤ self .standing ⌝ }
-        ensures { λ r. ⌜ r ≡ undoEntry self ⌝ }
+    // The entry that is taken. With no standing edit an undo's is the journal's first row, which nothing takes.
+    pub fn entry(self, way: Way) -> Entry
+        ensures { λ r. ⌜ r ≡ entryOf way self ⌝ }
     {
-        self.journal.row(self.standing - 1)
+        match way {
+            Way::Undo => self.journal.row(last_of(self.standing)).turned(),
+            Way::Redo => self.journal.row(self.standing),
+        }
     }
 
-    pub fn redo_entry(self) -> Entry
-        ensures { λ r. ⌜ r ≡ redoEntry self ⌝ }
-    {
-        self.journal.row(self.standing)
-    }
-
-    pub fn after_undo(mut self) -> Player
+    fn after_undo(mut self) -> Player
         requires { ⌜ CanUndo self ⌝ }
         ensures { λ r. ⌜ r ≡ undonePlayer self ⌝ }
     {
@@ -42,7 +98,7 @@ impl Player {
         self
     }
 
-    pub fn after_redo(mut self) -> Player
+    fn after_redo(mut self) -> Player
         requires { ⌜ CanRedo self ⌝ }
         ensures { λ r. ⌜ r ≡ redonePlayer self ⌝ }
     {
@@ -53,29 +109,14 @@ impl Player {
         self
     }
 
-    // Row standing % 128 takes the entry.
-    pub fn after_edit(self, e: Entry) -> Player
-        requires { ⌜ CanEdit self ⌝ }
-        ensures { λ r. ⌜ r ≡ editedPlayer self e ⌝ }
+    // The player with an entry taken.
+    pub fn after_take(self, way: Way) -> Player
+        requires { ⌜ CanTake way self ⌝ }
+        ensures { λ r. ⌜ r ≡ takenPlayer way self ⌝ }
     {
-        Player {
-            reach: one_more(self.reach),
-            redo: 0,
-            accepted: self.accepted + 1,
-            standing: self.standing + 1,
-            journal: self.journal.with_row(self.standing, e),
-            ..self
+        match way {
+            Way::Undo => self.after_undo(),
+            Way::Redo => self.after_redo(),
         }
     }
-}
-
-// One more edit that can be undone, up to the journal's 128.
-fn one_more(reach: u64) -> u64
-    requires { ⌜ reach ≤ 128 ⌝ }
-    ensures { λ r. ⌜ r ≡ oneMore reach ⌝ }
-{
-    if reach < ROWS {
-        return reach + 1;
-    }
-    ROWS
 }

@@ -1,3 +1,2 @@
--- What the exports for comparison answer.
-pub mod Checked
+-- What the exports for comparison test before they read.
 pub mod Readable

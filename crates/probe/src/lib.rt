@@ -1,11 +1,13 @@
 // Inner functions, exported so that a program can compare them with the Rust on millions of inputs. No part of the player.
-// An export requires nothing: it tests what the function inside requires, and answers 0 where a test fails.
+// An export requires nothing: it tests what the function inside requires, and answers 0 where a test fails. It is proved safe and to end, no more: what it
+// answers is compared, and the function inside has a contract of its own.
 mod formats;
 mod readings;
 
 ghost use mathlib.Core.Path.{_≡_};
+ghost use mathlib.Core.Bool.{true};
 ghost use Rattle.float.specs.Rising.{rising};
-ghost use Rattle.probe.specs.Checked.{canRead, checkedCurve, checkedCurveStepU16};
+ghost use Rattle.curve.specs.Curve.{Readable};
 
 fn never_falls(frames: &[f32]) -> bool
     ensures { λ r. ⌜ r ≡ rising (now (frames .entry)) ⌝ }
@@ -25,7 +27,7 @@ fn never_falls(frames: &[f32]) -> bool
 }
 
 fn can_read(kind: u8, frames: &[f32], values: &[f32], slopes: &[f32]) -> bool
-    ensures { λ r. ⌜ r ≡ canRead kind (now (frames .entry)) (now (values .entry)) (now (slopes .entry)) ⌝ }
+    ensures { λ r. ⌜ (r ≡ true → Readable kind (now (frames .entry)) (now (values .entry)) (now (slopes .entry))) ⌝ }
 {
     if kind > curve::HERMITE {
         return false;
@@ -49,9 +51,7 @@ pub extern "C" fn probe_eval_curve(
     values: &[f32],
     slopes: &[f32],
     frame: f32,
-) -> f32
-    ensures { λ r. ⌜ r ≡ checkedCurve kind (now (frames .entry)) (now (values .entry)) (now (slopes .entry)) frame ⌝ }
-{
+) -> f32 {
     if can_read(kind, frames, values, slopes) {
         curve::eval_curve(kind, frames, values, slopes, frame)
     } else {
@@ -66,9 +66,7 @@ pub extern "C" fn probe_eval_curve_step_u16(
     values: &[f32],
     slopes: &[f32],
     frame: f32,
-) -> u32
-    ensures { λ r. ⌜ r ≡ checkedCurveStepU16 kind (now (frames .entry)) (now (values .entry)) (now (slopes .entry)) frame ⌝ }
-{
+) -> u32 {
     if can_read(kind, frames, values, slopes) {
         curve::eval_curve_step_u16(kind, frames, values, slopes, frame) as u32
     } else {

@@ -1,1 +1,2 @@
+-- What the pass over the targets keeps.
 pub mod Pass

@@ -9,7 +9,7 @@ use Rattle.laws.specs.Table.{table, table-length}
 use Rattle.laws.specs.Swept.{Swept, swept-none, swept-past, swept-at}
 use Rattle.laws.specs.declared.Found.{Found}
 use Rattle.laws.specs.declared.Found.the-variants as found
-use Rattle.sheet.specs.Sizes.{contentCount, targetCount, textureCount, targetsAt}
+use Rattle.sheet.specs.Sizes.{contentCount, targetCount, textureCount, targetBytes, targetsAt}
 use Rattle.sheet.specs.Checked.{Checked, target-content}
 use Rattle.sheet.specs.Rows.{targetAt, targetRow}
 use Rattle.sheet.specs.declared.rows.Target.{Target}
@@ -18,7 +18,6 @@ use Rattle.reading.specs.Reading.{rowReading, targetReading, lastTarget,
 use Rattle.channel.specs.Held.{heldFor, Holds, holds-for}
 use Rattle.channel.specs.Within.{ReachedIn, active-in, target-within}
 use Rattle.reading.specs.Ready.{Ready, ReadyRow, ready-row}
-use Rattle.reading.specs.declared.Active.{Active}
 use Rattle.reading.specs.declared.Active.the-variants as active
 use Rattle.reading.specs.declared.Reading.{Reading}
 use Rattle.channel.specs.declared.reach.Held.{Held}
@@ -26,7 +25,7 @@ use Rattle.channel.specs.declared.reach.Held.{Held}
 -- ---- what is known of target i's row
 
 module _ (s : List ℕ) (i : ℕ) {row : Target} where
-  pub row-is : {base : ℕ} → base ≡ targetsAt s → row ≡ targetAt s (base + i * 14) → row ≡ targetRow s i
+  pub row-is : {base : ℕ} → base ≡ targetsAt s → row ≡ targetAt s (base + i * targetBytes) → row ≡ targetRow s i
   unfolding targetRow
   row-is e q = rw e at q
 

@@ -1,6 +1,6 @@
 -- What each channel reads (document 01, "Channels"): the value of the last target of the active animation that addresses it. Definitions only.
 use Prim.Native.Nat.{ℕ}
-use mathlib.Core.Bool.{Bool, true, false, not, cond}
+use mathlib.Core.Bool.{not, cond}
 use mathlib.Core.List.{List}
 use lib.Dec.{eqb, ltb}
 use lib.IntN.{pos}

@@ -4,6 +4,7 @@ mod value;
 mod whole;
 
 pub use single::read_channel;
+pub use value::number_of;
 pub use value::row_reading;
 pub use whole::read_all;
 

@@ -6,7 +6,7 @@ use channel::hits;
 use channel::place_of;
 use laws::Found;
 ghost use mathlib.Core.Path.{_≡_};
-ghost use Prim.Native.Nat.{ℕ, _<_};
+ghost use Prim.Native.Nat.{_<_};
 ghost use Rattle.sheet.specs.Checked.{Checked};
 ghost use Rattle.book.specs.Checked.{CheckedBook};
 ghost use Rattle.channel.specs.Channel.{channelCount};

@@ -9,7 +9,7 @@ use channel::none_held;
 use channel::row_channel;
 use laws::Found;
 ghost use mathlib.Core.Path.{_≡_};
-ghost use Prim.Native.Nat.{ℕ, _<_};
+ghost use Prim.Native.Nat.{_<_};
 ghost use lib.ListN.{length, set};
 ghost use Rattle.laws.specs.Table.{table};
 ghost use Rattle.channel.specs.Channel.{channelCount};

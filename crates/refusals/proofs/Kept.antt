@@ -5,11 +5,10 @@ use mathlib.Core.List.{List, [], _∷_}
 use borrow.Author.Tests.{ne-eqb}
 use Rattle.laws.specs.Rows.{declines}
 use Rattle.keys.specs.Load.{loadOf}
-use Rattle.geometry.specs.Calls.{Filling}
-use Rattle.geometry.specs.Refused.{uvs-keeps}
-use Rattle.player.specs.View.{View, viewOf}
-use Rattle.menu.specs.Calls.{playOf, poseOf, tickOf, editOf, undoOf, redoOf, loadedOf}
-use Rattle.menu.specs.Readings.{tablesOf, cascadedOf}
+use Rattle.uv.specs.Calls.{Filling, uvs-keeps}
+use Rattle.player.specs.Parts.{View, viewOf}
+use Rattle.menu.specs.Calls.{playOf, poseOf, tickOf, editOf, takeOf, loadedOf}
+use Rattle.menu_readings.specs.Readings.{tablesOf, cascadedOf}
 use Rattle.menu_c.specs.Naming.{nameInto, nextNameInto, textureNameInto}
 use Rattle.machine.specs.Asks.{Ask, paneChannel, materialChannel, all, pane, layer, texture, cascade, askTable, tellIn}
 use Rattle.machine.specs.Calls.{Call, play, pose, tick, edit, undo, redo, ask, State, stepP}
@@ -30,7 +29,7 @@ told-keeps s b v t n (texture m k) d = refl
 told-keeps s b v t n (cascade visible alpha influence) d = rw (ne-eqb n 0 d)
 
 call-keeps : (s : List ℕ) (c : Call) (t : State) → (declines (callTable s c t) ≡ 0 → ⊥) → callAfter (stepP s c t) ≡ callBefore c t
-unfolding callTable playOf poseOf tickOf editOf undoOf redoOf
+unfolding callTable playOf poseOf tickOf editOf takeOf
 call-keeps s (play a) t d = rw (ne-eqb (declines (callTable s (play a) t)) 0 d)
 call-keeps s (pose a x) t d = rw (ne-eqb (declines (callTable s (pose a x) t)) 0 d)
 call-keeps s (tick dt fps) t d = rw (ne-eqb (declines (callTable s (tick dt fps) t)) 0 d)

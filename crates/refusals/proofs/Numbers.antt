@@ -5,11 +5,12 @@ use mathlib.Core.List.{List}
 use borrow.Author.Tests.{ne-eqb}
 use Rattle.laws.specs.Rows.{declines}
 use Rattle.keys.specs.Load.{loadOf}
-use Rattle.geometry.specs.Refused.{uvs-number, corners-number, corners-zero, translate-number, translate-zero, rotate-number, rotate-zero}
+use Rattle.uv.specs.Calls.{uvs-number}
+use Rattle.corner.specs.Refused.{corners-number, corners-zero, translate-number, translate-zero, rotate-number, rotate-zero}
 use Rattle.player.specs.declared.Player.{Player}
-use Rattle.player.specs.Keys.{Keys}
-use Rattle.menu.specs.Calls.{playOf, poseOf, tickOf, editOf, undoOf, redoOf, loadedOf, nextNameOf}
-use Rattle.menu.specs.Readings.{oneOf, paneOf, layerOf, tablesOf, cascadedOf, readPaneOf, readMaterialOf, readAllOf, resolvePaneOf, resolveSrtOf, textureNameOf, cascadeOf}
+use Rattle.edit.specs.Keys.{Keys}
+use Rattle.menu.specs.Calls.{playOf, poseOf, tickOf, editOf, takeOf, loadedOf, nextNameOf}
+use Rattle.menu_readings.specs.Readings.{oneOf, paneOf, layerOf, tablesOf, cascadedOf, readPaneOf, readMaterialOf, readAllOf, resolvePaneOf, resolveSrtOf, textureNameOf, cascadeOf}
 use Rattle.menu_c.specs.Naming.{nameInto, nextNameInto, textureNameInto}
 use Rattle.menu_c.specs.Long.{next-long, texture-long}
 use Rattle.machine.specs.Asks.{Ask, paneChannel, materialChannel, all, pane, layer, texture, cascade, askTable, tellOf}
@@ -31,7 +32,7 @@ ask-answers s b p ks (texture m k) = (λ d. rw (ne-eqb (declines (askTable s b p
 ask-answers s b p ks (cascade visible alpha influence) = refl
 
 call-answers : (s : List ℕ) (c : Call) (t : State) → Says (stepP s c t .1) (declines (callTable s c t))
-unfolding callTable playOf poseOf tickOf editOf undoOf redoOf
+unfolding callTable playOf poseOf tickOf editOf takeOf
 call-answers s (play a) t = refl
 call-answers s (pose a x) t = refl
 call-answers s (tick dt fps) t = refl

@@ -8,13 +8,13 @@ use lib.Dec.{T}
 use Rattle.laws.specs.Rows.{Row, numbers, numbered}
 use Rattle.laws.specs.Order.{order, isIn, from, inOrder, GoesBy, in-order-goes, in-order-numbered, declines-in}
 use Rattle.keys.specs.Load.{loadTable}
-use Rattle.geometry.specs.Declined.{uvsTable, rotationRows, cornersTable, translateTable, rotateTable}
-use Rattle.player.specs.declared.edit.Request.the-variants as request
-use Rattle.player.specs.Edit.{requestRows, editRows}
-use Rattle.player.specs.Undo.{undoRows, redoRows}
-use Rattle.menu.specs.Rows.{playRows, poseRows, tickRows, paneRows, paneChannelRows, materialChannelRows, layerRows, tablesRows, cascadeRows}
-use Rattle.menu.specs.Rows.{playTable, poseTable, tickTable, editTable, undoTable, redoTable, nextNameTable}
-use Rattle.menu.specs.Rows.{readPaneTable, readMaterialTable, readAllTable, resolvePaneTable, resolveSrtTable, textureNameTable, cascadeTable}
+use Rattle.uv.specs.Declined.{uvsTable}
+use Rattle.corner.specs.Declined.{rotationRows, cornersTable, translateTable, rotateTable}
+use Rattle.edit.specs.declared.request.Request.the-variants as request
+use Rattle.edit.specs.Edit.{requestRows, editRows}
+use Rattle.player.specs.Undo.{takeRows}
+use Rattle.menu.specs.Rows.{playRows, poseRows, tickRows, playTable, poseTable, tickTable, editTable, takeTable, nextNameTable}
+use Rattle.menu_readings.specs.Rows.{paneRows, paneChannelRows, materialChannelRows, layerRows, tablesRows, cascadeRows, readPaneTable, readMaterialTable, readAllTable, resolvePaneTable, resolveSrtTable, textureNameTable, cascadeTable}
 use Rattle.menu_c.specs.Naming.{nameRows, nextNameOutTable, textureNameOutTable}
 use Rattle.machine.specs.Asks.{paneChannel, materialChannel, all, pane, layer, texture, cascade, askTable}
 use Rattle.machine.specs.Calls.{Call, play, pose, tick, edit, undo, redo, ask, State}
@@ -27,7 +27,7 @@ pub record Ordered (rs : List Row) (ns : List ℕ) : Type 0 where
   pub ordered : inOrder order rs ≡ true
 
 call-ordered : (s : List ℕ) (c : Call) (t : State) → Ordered (callTable s c t) (callNumbers c)
-unfolding inOrder isIn from callTable askTable requestRows editRows undoRows redoRows playRows poseRows tickRows paneRows paneChannelRows materialChannelRows layerRows tablesRows cascadeRows playTable poseTable tickTable editTable undoTable redoTable readPaneTable readMaterialTable readAllTable resolvePaneTable resolveSrtTable textureNameTable cascadeTable
+unfolding inOrder isIn from callTable askTable requestRows editRows takeRows playRows poseRows tickRows paneRows paneChannelRows materialChannelRows layerRows tablesRows cascadeRows playTable poseTable tickTable editTable takeTable readPaneTable readMaterialTable readAllTable resolvePaneTable resolveSrtTable textureNameTable cascadeTable
 call-ordered s (play a) t = record { same = refl; ordered = refl }
 call-ordered s (pose a x) t = record { same = refl; ordered = refl }
 call-ordered s (tick dt fps) t = record { same = refl; ordered = refl }

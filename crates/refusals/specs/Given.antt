@@ -5,14 +5,15 @@ use mathlib.Core.Path.{_≡_}
 use mathlib.Core.List.{List, [], _∷_}
 use lib.ListN.{length}
 use lib.Ieee.{Float}
-use Rattle.geometry.specs.Calls.{noCorners, noPoint, uvsOf, placedOf, movedOf, turnedOf}
+use Rattle.uv.specs.Calls.{uvsOf}
+use Rattle.corner.specs.Calls.{noCorners, noPoint, placedOf, movedOf, turnedOf}
 use Rattle.reading.specs.declared.Reading.the-variants.{Nothing}
 use Rattle.player.specs.declared.Player.{Player}
 use Rattle.player.specs.declared.Tick.the-variants.{Idle}
 use Rattle.player.specs.Player.{freshPlayer}
-use Rattle.player.specs.Keys.{Keys}
+use Rattle.edit.specs.Keys.{Keys}
 use Rattle.menu.specs.Calls.{loadedOf, nextNameOf}
-use Rattle.menu.specs.Readings.{noPane, noLayer}
+use Rattle.menu_readings.specs.Readings.{noPane, noLayer}
 use Rattle.menu_c.specs.Naming.{nameBytes, nextNameInto, textureNameInto}
 use Rattle.machine.specs.Asks.{Ask, paneChannel, materialChannel, all, pane, layer, texture, cascade, Told, one, tables, resolvedPane, resolvedLayer, name, cascaded}
 use Rattle.machine.specs.Calls.{Call, play, pose, tick, edit, undo, redo, ask, Answer, number, ticked, told, State, stepP}

@@ -3,10 +3,10 @@
 use Prim.Native.Nat.{ℕ}
 use mathlib.Core.List.{List}
 use lib.Ieee.{Float}
-use Rattle.geometry.specs.declared.points.Vector2f.{Vector2f}
-use Rattle.geometry.specs.declared.points.Vector3f.{Vector3f}
-use Rattle.geometry.specs.declared.points.Corners.{Corners}
-use Rattle.player.specs.Keys.{Keys}
+use Rattle.float.specs.declared.vector.Vector2.{Vector2}
+use Rattle.float.specs.declared.vector.Vector3.{Vector3}
+use Rattle.corner.specs.declared.points.Corners.{Corners}
+use Rattle.edit.specs.Keys.{Keys}
 use Rattle.machine.specs.Calls.{Call, State}
 
 pub data Outward : Type 0 where
@@ -22,7 +22,7 @@ pub data Outward : Type 0 where
   -- layers, SRTs and an output
   uvs : List Float → List Float → List Float → Outward
   -- centre, size, both origins and the rotation
-  corners : Vector2f → Vector2f → ℕ → ℕ → Vector3f → Outward
-  translate : Corners → Vector2f → Outward
+  corners : Vector2 → Vector2 → ℕ → ℕ → Vector3 → Outward
+  translate : Corners → Vector2 → Outward
   -- point, centre and rotation
-  rotatePoint : Vector2f → Vector2f → Vector3f → Outward
+  rotatePoint : Vector2 → Vector2 → Vector3 → Outward

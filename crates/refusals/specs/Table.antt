@@ -5,9 +5,10 @@ use mathlib.Core.List.{List, [], _∷_}
 use lib.ListN.{length}
 use Rattle.laws.specs.Rows.{Row, declines}
 use Rattle.keys.specs.Load.{loadTable}
-use Rattle.geometry.specs.Declined.{uvsTable, cornersTable, translateTable, rotateTable}
-use Rattle.player.specs.declared.edit.Request.{Request}
-use Rattle.player.specs.declared.edit.Request.the-variants as request
+use Rattle.uv.specs.Declined.{uvsTable}
+use Rattle.corner.specs.Declined.{cornersTable, translateTable, rotateTable}
+use Rattle.edit.specs.declared.request.Request.{Request}
+use Rattle.edit.specs.declared.request.Request.the-variants as request
 use Rattle.menu.specs.Rows.{playTable, poseTable, tickTable, editTable, undoTable, redoTable, nextNameTable}
 use Rattle.menu_c.specs.Naming.{nextNameOutTable, textureNameOutTable}
 use Rattle.machine.specs.Asks.{Ask, paneChannel, materialChannel, all, pane, layer, texture, cascade, askTable}

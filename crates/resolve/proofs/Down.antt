@@ -2,7 +2,7 @@
 use Prim.Native.Nat.{ℕ, _+_, _<_, _≤_}
 use mathlib.Core.List.{List, map}
 use mathlib.Core.Bool.{Bool, true, false, not, cond}
-use mathlib.Core.Path.{_≡_, refl, sym, _∙_, ap}
+use mathlib.Core.Path.{_≡_, refl, _∙_, ap}
 use native.Mathlib.Omega.{arith}
 use borrow.Author.Tests.{eqb-false}
 use lib.Dec.{eqb}
@@ -10,7 +10,7 @@ use lib.ListN.{length, getD, set}
 use lib.Seq.{getD-set-other}
 use lib.Ieee.{Float, nan}
 use Rattle.laws.specs.Grown.{grow, grow-ext, Grown, grown-none, grown-more, grown-at, grown-all}
-use Rattle.laws.specs.Table.{table, table-at}
+use Rattle.laws.specs.Table.{table-at}
 use Rattle.book.specs.Sizes.{paneCount, noParent}
 use Rattle.book.specs.Rows.{paneRow}
 use Rattle.book.specs.Checked.{CheckedBook, pane-parent}

@@ -7,10 +7,9 @@ use mathlib.Core.Path.{_≡_, refl, sym, _∙_, ap}
 use native.Mathlib.Omega.{arith}
 use borrow.Author.Tests.{eqb-true}
 use lib.Dec.{eqb}
-use lib.ListN.{length}
 use lib.Ieee.{Float}
 use Rattle.laws.specs.Table.{table, table-same}
-use Rattle.laws.specs.Swept.{Swept, swept-none, swept-past, swept-at, isAt, lastTo}
+use Rattle.laws.specs.Swept.{Swept, swept-none, swept-past, swept-at, isAt}
 use Rattle.laws.specs.declared.Found.{Found}
 use Rattle.laws.specs.declared.Found.the-variants as found
 use Rattle.sheet.specs.Sizes.{targetCount, textureCount}
@@ -18,7 +17,7 @@ use Rattle.sheet.specs.Rows.{targetRow}
 use Rattle.sheet.specs.declared.rows.Target.{Target}
 use Rattle.book.specs.Sizes.{paneCount}
 use Rattle.book.specs.Rows.{paneRow}
-use Rattle.channel.specs.Channel.{familyOf, paneChannel, activeReach}
+use Rattle.channel.specs.Channel.{visibleChannel, alphaChannel, familyOf, paneChannel, activeReach}
 use Rattle.channel.specs.Within.{active-in}
 use Rattle.channel.specs.Held.{heldFor, Holds, holds-for}
 use Rattle.channel.specs.declared.Reached.{Reached}
@@ -54,21 +53,21 @@ module _ (s b : List ℕ) (fs vs ss : List Float) (a : ℕ) (x : Float) where
   pub record Pass (held : Held) (visible : List ℕ) (alpha : List Float) (i : ℕ) : Type 0 where
     pub within : i ≤ targetCount s
     pub holds : Holds s b a held
-    pub shown : Swept (ownPane s b a 10) shownAt (paneCount b) visible i
-    pub faded : Swept (ownPane s b a 11) fadedAt (paneCount b) alpha i
+    pub shown : Swept (ownPane s b a visibleChannel) shownAt (paneCount b) visible i
+    pub faded : Swept (ownPane s b a alphaChannel) fadedAt (paneCount b) alpha i
 
--- a channel of its own is 10 or 11
-only-11 : (o : Found) (k : ℕ) → onlyOwn o ≡ found.At k → eqb k 10 ≡ false → k ≡ 11
-only-11 (found.At n) k e f = go (eqb n 10 || eqb n 11) refl e
+-- a channel that is kept and is not visible's is alpha's
+only-alpha : (o : Found) (k : ℕ) → onlyOwn o ≡ found.At k → eqb k visibleChannel ≡ false → k ≡ alphaChannel
+only-alpha (found.At n) k e f = go (eqb n visibleChannel || eqb n alphaChannel) refl e
   where
-    go : (y : Bool) → (eqb n 10 || eqb n 11) ≡ y → cond y (found.At n) found.Nothing ≡ found.At k → k ≡ 11
-    go true g q = let r : n ≡ k = cc in eqb-true k 11 (rw f at (rw r at g))
+    go : (y : Bool) → (eqb n visibleChannel || eqb n alphaChannel) ≡ y → cond y (found.At n) found.Nothing ≡ found.At k → k ≡ alphaChannel
+    go true g q = let r : n ≡ k = cc in eqb-true k alphaChannel (rw f at (rw r at g))
     go false g q = cc
-only-11 found.Nothing k e f = cc
+only-alpha found.Nothing k e f = cc
 
-own-11 : (row : Target) (k : ℕ) → ownChannel row ≡ found.At k → eqb k 10 ≡ false → k ≡ 11
+own-alpha : (row : Target) (k : ℕ) → ownChannel row ≡ found.At k → eqb k visibleChannel ≡ false → k ≡ alphaChannel
 unfolding ownChannel
-own-11 row k e f = only-11 (paneChannel (familyOf (row .code)) (row .raw)) k e f
+own-alpha row k e f = only-alpha (paneChannel (familyOf (row .code)) (row .raw)) k e f
 
 in-panes : (b : List ℕ) (r : Reached) (p : ℕ) → ((q : ℕ) → r ≡ reached.Pane q → q < paneCount b) → paneIn r ≡ found.At p → p < paneCount b
 in-panes b (reached.Pane q) p h e = let z : q ≡ p = cc in omega (arith, h q refl)
@@ -91,7 +90,7 @@ module _ {s b : List ℕ} {fs vs ss : List Float} {a : ℕ} {x : Float} {held : 
     other j e q z = rw (ap ownChannel (sym e) ∙ sym q ∙ z)
 
     pub pass-other : {row : Target} {o : Found} → i < targetCount s → row ≡ targetRow s i → o ≡ ownChannel row → o ≡ found.Nothing → Pass s b fs vs ss a x held visible alpha (i + 1)
-    pass-other l e q z = record { within = omega arith; holds = w .holds; shown = swept-past (w .shown) (other 10 e q z); faded = swept-past (w .faded) (other 11 e q z) }
+    pass-other l e q z = record { within = omega arith; holds = w .holds; shown = swept-past (w .shown) (other visibleChannel e q z); faded = swept-past (w .faded) (other alphaChannel e q z) }
 
     -- a target whose content reaches no pane
     beside : {row : Target} {h : Held} {n : Found} (j : ℕ) → row ≡ targetRow s i → h ≡ heldFor s b a (row .content) → n ≡ paneIn (h .reached) → n ≡ found.Nothing → ownPane s b a j i ≡ found.Nothing
@@ -104,15 +103,15 @@ module _ {s b : List ℕ} {fs vs ss : List Float} {a : ℕ} {x : Float} {held : 
 
     pub pass-beside : {row : Target} {h : Held} {n : Found} → i < targetCount s → row ≡ targetRow s i → h ≡ heldFor s b a (row .content) → n ≡ paneIn (h .reached) → n ≡ found.Nothing → Pass s b fs vs ss a x h visible alpha (i + 1)
     pass-beside {row} l e k q z =
-        record { within = omega arith; holds = rw k (holds-for s b a (row .content)); shown = swept-past (w .shown) (beside 10 e k q z); faded = swept-past (w .faded) (beside 11 e k q z) }
+        record { within = omega arith; holds = rw k (holds-for s b a (row .content)); shown = swept-past (w .shown) (beside visibleChannel e k q z); faded = swept-past (w .faded) (beside alphaChannel e k q z) }
 
     -- a target for channel k of pane p
     pub pass-at : {row : Target} {o n : Found} {h : Held} {k p m : ℕ} {r : Reading} {visible′ : List ℕ} {alpha′ : List Float} → i < targetCount s → row ≡ targetRow s i → o ≡ ownChannel row → o ≡ found.At k →
         h ≡ heldFor s b a (row .content) → n ≡ paneIn (h .reached) → n ≡ found.At p → m ≡ textureCount s → r ≡ rowReading m fs vs ss x row →
-        (visible′ ≡ putIf (eqb k 10) p (bitOf (orShown r (paneRow b p .visible))) visible) × (alpha′ ≡ putIf (not (eqb k 10)) p (orNumber r (bookAlpha b p)) alpha) → Pass s b fs vs ss a x h visible′ alpha′ (i + 1)
+        (visible′ ≡ putIf (eqb k visibleChannel) p (bitOf (orShown r (paneRow b p .visible))) visible) × (alpha′ ≡ putIf (not (eqb k visibleChannel)) p (orNumber r (bookAlpha b p)) alpha) → Pass s b fs vs ss a x h visible′ alpha′ (i + 1)
     unfolding targetReading ownPane
     pass-at {row} {h = h} {k} {p} {r = r} {visible′} {alpha′} l e q z d n f m g u =
-        go (eqb k 10) refl u
+        go (eqb k visibleChannel) refl u
       where
         at-k : ownChannel (targetRow s i) ≡ found.At k
         at-k = ap ownChannel (sym e) ∙ sym q ∙ z
@@ -129,28 +128,28 @@ module _ {s b : List ℕ} {fs vs ss : List Float} {a : ℕ} {x : Float} {held : 
         holds : Holds s b a h
         holds = rw d (holds-for s b a (row .content))
 
-        go : (y : Bool) → eqb k 10 ≡ y → (visible′ ≡ putIf y p (bitOf (orShown r (paneRow b p .visible))) visible) × (alpha′ ≡ putIf (not y) p (orNumber r (bookAlpha b p)) alpha) → Pass s b fs vs ss a x h visible′ alpha′ (i + 1)
+        go : (y : Bool) → eqb k visibleChannel ≡ y → (visible′ ≡ putIf y p (bitOf (orShown r (paneRow b p .visible))) visible) × (alpha′ ≡ putIf (not y) p (orNumber r (bookAlpha b p)) alpha) → Pass s b fs vs ss a x h visible′ alpha′ (i + 1)
         go true c v =
-            let ten : k ≡ 10 = eqb-true k 10 c in
+            let shows : k ≡ visibleChannel = eqb-true k visibleChannel c in
             record {
               within = omega arith;
               holds = holds;
-              shown = rw (v .0) (swept-at (w .shown) (unfold ownPane in rw (at-k, ten) at-p) below (ap (λ (r : Reading). bitOf (orShown r (paneRow b p .visible))) read));
-              faded = rw (v .1) (swept-past (w .faded) (unfold ownPane in rw (at-k, ten)));
+              shown = rw (v .0) (swept-at (w .shown) (unfold ownPane in rw (at-k, shows) at-p) below (ap (λ (r : Reading). bitOf (orShown r (paneRow b p .visible))) read));
+              faded = rw (v .1) (swept-past (w .faded) (unfold ownPane in rw (at-k, shows)));
             }
         go false c v =
-            let eleven : k ≡ 11 = own-11 (targetRow s i) k at-k c in
+            let fades : k ≡ alphaChannel = own-alpha (targetRow s i) k at-k c in
             record {
               within = omega arith;
               holds = holds;
-              shown = rw (v .0) (swept-past (w .shown) (unfold ownPane in rw (at-k, eleven)));
-              faded = rw (v .1) (swept-at (w .faded) (unfold ownPane in rw (at-k, eleven) at-p) below (ap (λ (r : Reading). orNumber r (bookAlpha b p)) read));
+              shown = rw (v .0) (swept-past (w .shown) (unfold ownPane in rw (at-k, fades)));
+              faded = rw (v .1) (swept-at (w .faded) (unfold ownPane in rw (at-k, fades) at-p) below (ap (λ (r : Reading). orNumber r (bookAlpha b p)) read));
             }
 
     pub pass-all : targetCount s ≤ i → (visible ≡ ownBits s b fs vs ss (active.At a x)) × (alpha ≡ ownAlphas s b fs vs ss (active.At a x))
     unfolding ownBits ownAlphas visibleOf alphaOf paneNumber reading
     pass-all l =
         let e : i ≡ targetCount s = omega arith in (
-          rw e at (w .shown .made) ∙ table-same (paneCount b) _ _ (λ p m. ap (shownAt s b fs vs ss a x p) (own-last s b a p 10 refl m (omega arith))),
-          rw e at (w .faded .made) ∙ table-same (paneCount b) _ _ (λ p m. ap (fadedAt s b fs vs ss a x p) (own-last s b a p 11 refl m (omega arith))),
+          rw e at (w .shown .made) ∙ table-same (paneCount b) _ _ (λ p m. ap (shownAt s b fs vs ss a x p) (own-last s b a p visibleChannel refl m (omega arith))),
+          rw e at (w .faded .made) ∙ table-same (paneCount b) _ _ (λ p m. ap (fadedAt s b fs vs ss a x p) (own-last s b a p alphaChannel refl m (omega arith))),
         )

@@ -1,6 +1,6 @@
 -- The cascade (document 01, "Channels"; the Rust's inner `update`): visible, alpha and influence over all rows by parent. Definitions only.
 use Prim.Native.Nat.{ℕ}
-use mathlib.Core.Bool.{Bool, true, false, _&&_, cond}
+use mathlib.Core.Bool.{Bool, true, _&&_, cond}
 use mathlib.Core.List.{List, map}
 use lib.Dec.{eqb}
 use lib.ListN.{getD}

@@ -17,7 +17,7 @@ use Rattle.sheet.specs.Rows.{targetRow}
 use Rattle.sheet.specs.declared.rows.Target.{Target}
 use Rattle.book.specs.Sizes.{paneCount}
 use Rattle.book.specs.Rows.{paneRow}
-use Rattle.channel.specs.Channel.{familyOf, paneChannel, paneChannels, ofPane, activeReach, targetChannel}
+use Rattle.channel.specs.Channel.{visibleChannel, alphaChannel, familyOf, paneChannel, paneChannels, ofPane, activeReach, targetChannel}
 use Rattle.channel.specs.Place.{isPane, pane-hit}
 use Rattle.channel.specs.declared.Reached.{Reached}
 use Rattle.channel.specs.declared.Reached.the-variants as reached
@@ -46,9 +46,9 @@ module _ (s b : List ℕ) (fs vs ss : List Float) (a : Active) where
 
 -- ---- which targets matter
 
--- 10 or 11, where a target's row is for visible or for alpha, and nothing where it is for neither
+-- that channel, where a target's row is for visible or for alpha, and nothing where it is for neither
 abbrev pub onlyOwn : Found → Found
-onlyOwn (found.At k) = cond (eqb k 10 || eqb k 11) (found.At k) found.Nothing
+onlyOwn (found.At k) = cond (eqb k visibleChannel || eqb k alphaChannel) (found.At k) found.Nothing
 onlyOwn found.Nothing = found.Nothing
 
 unfoldable pub ownChannel : Target → Found
@@ -60,7 +60,7 @@ paneIn (reached.Pane p) = found.At p
 paneIn (reached.Material m) = found.Nothing
 paneIn reached.Nothing = found.Nothing
 
--- the pane whose channel j target t addresses while animation a is active, j being 10 or 11
+-- the pane whose channel j target t addresses while animation a is active, j being visible or alpha
 unfoldable pub ownPane : List ℕ → List ℕ → ℕ → ℕ → ℕ → Found
 ownPane s b a j t = cond (isAt (ownChannel (targetRow s t)) j) (paneIn (activeReach s b a (targetRow s t .content))) found.Nothing
 
@@ -71,12 +71,12 @@ putIf false p v l = l
 
 -- ---- they are the targets that address the two channels
 
-own-is : (o : Found) (j : ℕ) → (eqb j 10 || eqb j 11) ≡ true → isAt (onlyOwn o) j ≡ isAt o j
-own-is (found.At k) j h = go (eqb k 10 || eqb k 11) refl (eqb k j) refl
+own-is : (o : Found) (j : ℕ) → (eqb j visibleChannel || eqb j alphaChannel) ≡ true → isAt (onlyOwn o) j ≡ isAt o j
+own-is (found.At k) j h = go (eqb k visibleChannel || eqb k alphaChannel) refl (eqb k j) refl
   where
-    go : (x : Bool) → (eqb k 10 || eqb k 11) ≡ x → (y : Bool) → eqb k j ≡ y → isAt (cond x (found.At k) found.Nothing) j ≡ y
+    go : (x : Bool) → (eqb k visibleChannel || eqb k alphaChannel) ≡ x → (y : Bool) → eqb k j ≡ y → isAt (cond x (found.At k) found.Nothing) j ≡ y
     go true e y f = f
-    go false e true f = let q : (eqb k 10 || eqb k 11) ≡ true = rw (eqb-true k j f) h in cc
+    go false e true f = let q : (eqb k visibleChannel || eqb k alphaChannel) ≡ true = rw (eqb-true k j f) h in cc
     go false e false f = refl
 own-is found.Nothing j h = refl
 
@@ -86,7 +86,7 @@ in-is true (reached.Material m) p = refl
 in-is true reached.Nothing p = refl
 in-is false r p = refl
 
-own-hit : (s b : List ℕ) (a t p j : ℕ) → (eqb j 10 || eqb j 11) ≡ true → p < paneCount b → j < paneChannels → isAt (ownPane s b a j t) p ≡ isAt (targetChannel s b a t) (ofPane p j)
+own-hit : (s b : List ℕ) (a t p j : ℕ) → (eqb j visibleChannel || eqb j alphaChannel) ≡ true → p < paneCount b → j < paneChannels → isAt (ownPane s b a j t) p ≡ isAt (targetChannel s b a t) (ofPane p j)
 unfolding ownPane ownChannel
 own-hit s b a t p j h l k =
     in-is (isAt (ownChannel (targetRow s t)) j) (activeReach s b a (targetRow s t .content)) p ∙
@@ -94,6 +94,6 @@ own-hit s b a t p j h l k =
     sym (pane-hit s b a t p j l k)
 
 -- so the last of them is the channel's last target
-pub own-last : (s b : List ℕ) (a p j : ℕ) → (eqb j 10 || eqb j 11) ≡ true → p < paneCount b → j < paneChannels → lastTo (ownPane s b a j) (targetCount s) p ≡ lastTarget s b a (ofPane p j)
+pub own-last : (s b : List ℕ) (a p j : ℕ) → (eqb j visibleChannel || eqb j alphaChannel) ≡ true → p < paneCount b → j < paneChannels → lastTo (ownPane s b a j) (targetCount s) p ≡ lastTarget s b a (ofPane p j)
 unfolding lastTarget
 own-last s b a p j h l k = last-same (targetCount s) (λ t. isAt (ownPane s b a j t) p) (λ t. isAt (targetChannel s b a t) (ofPane p j)) (λ t m. own-hit s b a t p j h l k)

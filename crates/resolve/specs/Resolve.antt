@@ -9,10 +9,10 @@ use Rattle.laws.specs.declared.Found.the-variants as found
 use Rattle.float.specs.Numbers.{_⊘_}
 use Rattle.sheet.specs.Rows.{textureName}
 use Rattle.book.specs.Rows.{paneRow, materialSrt, materialTexture}
-use Rattle.book.specs.declared.rows.Srt.{Srt}
-use Rattle.book.specs.declared.rows.Vector2.{Vector2}
-use Rattle.book.specs.declared.rows.Vector3.{Vector3}
-use Rattle.channel.specs.Channel.{slotChannel, ofPane, ofMaterial}
+use Rattle.float.specs.declared.vector.Srt.{Srt}
+use Rattle.float.specs.declared.vector.Vector2.{Vector2}
+use Rattle.float.specs.declared.vector.Vector3.{Vector3}
+use Rattle.channel.specs.Channel.{visibleChannel, alphaChannel, slotChannel, ofPane, ofMaterial}
 use Rattle.reading.specs.Reading.{reading, full}
 use Rattle.reading.specs.declared.Active.{Active}
 use Rattle.reading.specs.declared.Reading.{Reading}
@@ -75,10 +75,10 @@ module _ (s b : List ℕ) (fs vs ss : List Float) (a : Active) where
       }
 
   unfoldable pub visibleOf : ℕ → Bool
-  visibleOf p = orShown (reading s b fs vs ss a (ofPane p 10)) (paneRow b p .visible)
+  visibleOf p = orShown (reading s b fs vs ss a (ofPane p visibleChannel)) (paneRow b p .visible)
 
   unfoldable pub alphaOf : ℕ → Float
-  alphaOf p = paneNumber p 11 (bookAlpha b p)
+  alphaOf p = paneNumber p alphaChannel (bookAlpha b p)
 
   -- the Rust's TextureSrtAnimation::resolve: a layer's five channels
   unfoldable pub srtOf : ℕ → ℕ → Srt

@@ -4,8 +4,8 @@ mod over;
 mod own;
 mod rows;
 
-use book::Vector2;
-use book::Vector3;
+use float::Vector2;
+use float::Vector3;
 pub use name::texture_name;
 pub use over::resolve_alpha;
 pub use over::resolve_srt;
@@ -14,6 +14,7 @@ pub use over::resolve_visible;
 pub use rows::cascade;
 
 // The Rust's ResolvedPaneTransform.
+#[repr(C)]
 pub struct Transform {
     pub translation: Vector3,
     pub rotation: Vector3,

@@ -1,8 +1,8 @@
 // The override of a channel, else what the book has.
 use crate::Transform;
-use book::Srt;
-use book::Vector2;
-use book::Vector3;
+use float::Srt;
+use float::Vector2;
+use float::Vector3;
 use reading::Active;
 use reading::Reading;
 use reading::read_channel;
@@ -176,7 +176,7 @@ pub fn resolve_visible(
             values,
             slopes,
             active,
-            channel::of_pane(p, 10),
+            channel::of_pane(p, channel::VISIBLE),
         ),
         base.visible,
     )
@@ -203,7 +203,7 @@ pub fn resolve_alpha(
         slopes,
         active,
         p,
-        11,
+        channel::ALPHA,
         base.alpha as f32 / 255.0,
     )
 }

@@ -11,13 +11,14 @@ use reading::row_reading;
 use sheet::Target;
 ghost use mathlib.Core.Path.{_≡_};
 ghost use mathlib.Core.Bool.{not};
-ghost use Prim.Native.Nat.{ℕ, _<_};
+ghost use Prim.Native.Nat.{_<_};
 ghost use lib.Dec.{eqb};
 ghost use lib.ListN.{length};
 ghost use Rattle.laws.specs.Table.{table};
 ghost use Rattle.book.specs.Sizes.{paneCount};
 ghost use Rattle.book.specs.Rows.{paneRow};
 ghost use Rattle.book.specs.Checked.{CheckedBook};
+ghost use Rattle.channel.specs.Channel.{visibleChannel};
 ghost use Rattle.reading.specs.Ready.{Ready};
 ghost use Rattle.reading.specs.declared.Active.the-variants as active;
 ghost use Rattle.resolve.specs.Resolve.{orNumber, orShown, bookAlpha};
@@ -46,14 +47,14 @@ fn book_rows(b: &[u8], visible: &mut [u8], alpha: &mut [f32])
     }
 }
 
-// Visible is channel 10 of a pane, alpha channel 11.
+// Of a pane's channels only visible and alpha.
 fn own_channel(row: Target) -> Found
     ensures { λ r. ⌜ r ≡ ownChannel row ⌝ }
 {
     let Found::At(k) = channel::pane_channel(channel::family_of(row.code), row.raw) else {
         return Found::Nothing;
     };
-    if (k == 10) | (k == 11) {
+    if (k == channel::VISIBLE) | (k == channel::ALPHA) {
         return Found::At(k);
     }
     Found::Nothing
@@ -69,14 +70,14 @@ fn pane_in(r: Reached) -> Found
     }
 }
 
-// A target's reading as pane p's visible, where its channel k is 10, else as the pane's alpha.
+// A target's reading as pane p's visible, where its channel k is that, else as the pane's alpha.
 fn put_own(b: &[u8], p: usize, k: usize, r: Reading, visible: &mut [u8], alpha: &mut [f32])
     requires { ⌜ CheckedBook (now b) × ((p < paneCount (now b)) × ((length (now visible) ≡ paneCount (now b)) × (length (now alpha) ≡ paneCount (now b)))) ⌝ }
-    ensures { λ _. ⌜ now (visible .exit) ≡ putIf (eqb k 10) p (bitOf (orShown r (paneRow (now (b .entry)) p .visible))) (now (visible .entry)) ⌝ }
-    ensures { λ _. ⌜ now (alpha .exit) ≡ putIf (not (eqb k 10)) p (orNumber r (bookAlpha (now (b .entry)) p)) (now (alpha .entry)) ⌝ }
+    ensures { λ _. ⌜ now (visible .exit) ≡ putIf (eqb k visibleChannel) p (bitOf (orShown r (paneRow (now (b .entry)) p .visible))) (now (visible .entry)) ⌝ }
+    ensures { λ _. ⌜ now (alpha .exit) ≡ putIf (not (eqb k visibleChannel)) p (orNumber r (bookAlpha (now (b .entry)) p)) (now (alpha .entry)) ⌝ }
 {
     let row = book::pane_row(b, p);
-    if k == 10 {
+    if k == channel::VISIBLE {
         visible[p] = bit(or_shown(r, row.visible));
     } else {
         alpha[p] = or_number(r, row.alpha as f32 / 255.0);

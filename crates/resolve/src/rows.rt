@@ -2,10 +2,11 @@
 use crate::Cascaded;
 use crate::own::bit;
 use crate::own::own_rows;
+use book::NO_PARENT;
 use reading::Active;
 ghost use mathlib.Core.Path.{_≡_};
 ghost use mathlib.Core.List.{map};
-ghost use Prim.Native.Nat.{ℕ, _<_};
+ghost use Prim.Native.Nat.{_<_};
 ghost use lib.ListN.{length};
 ghost use Rattle.laws.specs.Grown.{grow};
 ghost use Rattle.book.specs.Sizes.{paneCount, noParent};
@@ -13,9 +14,6 @@ ghost use Rattle.book.specs.Checked.{CheckedBook};
 ghost use Rattle.reading.specs.Ready.{Ready};
 ghost use Rattle.resolve.specs.Cascade.{under, rowFrom, shownBit, alphaIn, influenceIn, visibles, alphas, influences};
 ghost use Rattle.resolve.specs.Tables.{readAbove, shownOf, numberIn};
-
-// The parent of a pane with none.
-const NO_PARENT: usize = 65535;
 
 // A row from the one above it.
 fn under(above: Cascaded, visible: bool, alpha: f32, influences: bool) -> Cascaded

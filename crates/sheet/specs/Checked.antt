@@ -1,10 +1,10 @@
 -- What a checked sheet tells: a record whose fields `omega` reads, and laws on its rows. Whoever holds it needs no index proof of its own. Assumes nothing.
 use Prim.Native.Nat.{ℕ, zero, suc, _+_, _-_, _*_, _<_, _≤_}
 use mathlib.Core.List.{List}
-use mathlib.Core.Bool.{Bool, true, _&&_, _||_}
-use mathlib.Core.Path.{_≡_, refl, sym, _∙_, ap}
+use mathlib.Core.Bool.{true}
+use mathlib.Core.Path.{_≡_, ap}
 use mathlib.Core.Logic.{⊎-elim}
-use native.Mathlib.Nat.{le-of-eq, eq-or-lt-of-le, le-of-suc-le-suc, not-suc-le-zero}
+use native.Mathlib.Nat.{le-of-eq, eq-or-lt-of-le, le-of-suc-le-suc}
 use native.Mathlib.Omega.{arith}
 use borrow.Author.Tests.{leb-true, ltb-true, eqb-true}
 use lib.ListN.{length}
@@ -13,7 +13,7 @@ use Rattle.laws.specs.Tests.{both, and-1, and-2}
 use Rattle.laws.specs.Below.{allBelow, all-at}
 use Rattle.laws.specs.Sum.{sumBelow, sum-within}
 use Rattle.field.specs.Read.{byteAt, u16At}
-use Rattle.sheet.specs.Sizes.{animationCount, contentCount, targetCount, keyCount, textureCount, contentsAt, targetsAt}
+use Rattle.sheet.specs.Sizes.{animationCount, contentCount, targetCount, keyCount, textureCount, headBytes, contentBytes, targetBytes, contentsAt, targetsAt, sheetBytes}
 use Rattle.sheet.specs.Rows.{contentAt, targetAt, contentRow, targetRow}
 use Rattle.sheet.specs.Sheet.{sizesOk, lengthOk, animationOk, contentOk, keysOf, targetFrom, targetOk, targetsOk, sheetOk}
 
@@ -29,12 +29,12 @@ pub record Sized (s : List ℕ) : Type 0 where
 -- the length is theirs, and each row passed
 pub record Checked (s : List ℕ) : Type 0 where
   pub sizes : Sized s
-  pub long : length s ≡ 12 + animationCount s * 28 + contentCount s * 28 + targetCount s * 14 + textureCount s * 24 + keyCount s * 12
+  pub long : length s ≡ sheetBytes s
   pub animated : allBelow (animationCount s) (animationOk s) ≡ true
   pub contented : allBelow (contentCount s) (contentOk s (contentsAt s) (animationCount s)) ≡ true
   pub aimed : targetsOk s (targetsAt s) (contentCount s) (targetCount s) (keyCount s) ≡ true
 
-pub length-known : (s : List ℕ) → lengthOk s ≡ true → length s ≡ 12 + animationCount s * 28 + contentCount s * 28 + targetCount s * 14 + textureCount s * 24 + keyCount s * 12
+pub length-known : (s : List ℕ) → lengthOk s ≡ true → length s ≡ sheetBytes s
 unfolding lengthOk
 length-known s e = eqb-true _ _ e
 
@@ -63,7 +63,7 @@ checked s e =
     let a = both _ _ (c .0) in
     let l = both _ _ (a .0) in
     record {
-      sizes = sized s (and-2 (leb 12 (length s)) _ (l .0));
+      sizes = sized s (and-2 (leb headBytes (length s)) _ (l .0));
       long = length-known s (l .1);
       animated = a .1;
       contented = c .1;
@@ -72,22 +72,22 @@ checked s e =
 
 -- ---- what each test of a row says
 record ContentOk (s : List ℕ) (base a i : ℕ) : Type 0 where
-  kind : leb (contentAt s (base + i * 28) .kind) 4 ≡ true
-  below : ltb (contentAt s (base + i * 28) .animation) a ≡ true
-  climbs : leb (contentAt s (base + (i - 1) * 28) .animation) (contentAt s (base + i * 28) .animation) ≡ true
+  kind : leb (contentAt s (base + i * contentBytes) .kind) 4 ≡ true
+  below : ltb (contentAt s (base + i * contentBytes) .animation) a ≡ true
+  climbs : leb (contentAt s (base + (i - 1) * contentBytes) .animation) (contentAt s (base + i * contentBytes) .animation) ≡ true
 
 content-tests : (s : List ℕ) (base a i : ℕ) → contentOk s base a i ≡ true → ContentOk s base a i
 unfolding contentOk
 content-tests s base a i e =
     let c = both _ _ e in
     let b = both _ _ (c .0) in
-    record { kind = and-1 _ (eqb (u16At s (base + i * 28 + 2)) 0) (b .0); below = b .1; climbs = c .1 }
+    record { kind = and-1 _ (eqb (u16At s (base + i * contentBytes + 2)) 0) (b .0); below = b .1; climbs = c .1 }
 
 record TargetOk (s : List ℕ) (base c i f : ℕ) : Type 0 where
-  curve : leb (targetAt s (base + i * 14) .curve) 2 ≡ true
-  below : ltb (targetAt s (base + i * 14) .content) c ≡ true
-  climbs : leb (targetAt s (base + (i - 1) * 14) .content) (targetAt s (base + i * 14) .content) ≡ true
-  first : eqb (targetAt s (base + i * 14) .first) f ≡ true
+  curve : leb (targetAt s (base + i * targetBytes) .curve) 2 ≡ true
+  below : ltb (targetAt s (base + i * targetBytes) .content) c ≡ true
+  climbs : leb (targetAt s (base + (i - 1) * targetBytes) .content) (targetAt s (base + i * targetBytes) .content) ≡ true
+  first : eqb (targetAt s (base + i * targetBytes) .first) f ≡ true
 
 target-tests : (s : List ℕ) (base c i f : ℕ) → targetFrom s base c i f ≡ true → TargetOk s base c i f
 unfolding targetFrom
@@ -95,7 +95,7 @@ target-tests s base c i f e =
     let d = both _ _ e in
     let k = both _ _ (d .0) in
     let b = both _ _ (k .0) in
-    record { curve = and-1 _ (eqb (byteAt s (base + i * 14 + 9)) 0) (b .0); below = b .1; climbs = k .1; first = d .1 }
+    record { curve = and-1 _ (eqb (byteAt s (base + i * targetBytes + 9)) 0) (b .0); below = b .1; climbs = k .1; first = d .1 }
 
 -- what never falls from a row to the next does not fall from a row to any later one
 climbing : (n : ℕ) (f : ℕ → ℕ) → ((k : ℕ) → k < n → f (k - 1) ≤ f k) → (j i : ℕ) → i ≤ j → j < n → f i ≤ f j

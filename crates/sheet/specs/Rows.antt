@@ -3,8 +3,8 @@ use Prim.Native.Nat.{ℕ, _+_, _*_}
 use mathlib.Core.List.{List}
 use lib.Dec.{eqb}
 use Rattle.field.specs.Read.{byteAt, u16At, u32At}
-use Rattle.field.specs.Name.{nameAt}
-use Rattle.sheet.specs.Sizes.{animationsAt, contentsAt, targetsAt, texturesAt}
+use Rattle.field.specs.Name.{nameBytes, nameAt}
+use Rattle.sheet.specs.Sizes.{animationBytes, contentBytes, targetBytes, rowName, animationsAt, contentsAt, targetsAt, texturesAt}
 use Rattle.sheet.specs.declared.rows.Animation.{Animation}
 use Rattle.sheet.specs.declared.rows.Content.{Content}
 use Rattle.sheet.specs.declared.rows.Target.{Target}
@@ -32,20 +32,17 @@ targetAt s at =
 
 -- row i of each table
 unfoldable pub animationRow : List ℕ → ℕ → Animation
-animationRow s i = animationAt s (animationsAt + i * 28)
+animationRow s i = animationAt s (animationsAt + i * animationBytes)
 
 unfoldable pub contentRow : List ℕ → ℕ → Content
-contentRow s i = contentAt s (contentsAt s + i * 28)
+contentRow s i = contentAt s (contentsAt s + i * contentBytes)
 
 unfoldable pub targetRow : List ℕ → ℕ → Target
-targetRow s i = targetAt s (targetsAt s + i * 14)
+targetRow s i = targetAt s (targetsAt s + i * targetBytes)
 
--- the fields of the names: an animation's next, a content's, a texture's
+-- the fields of the names: an animation's next, a texture's
 unfoldable pub nextName : List ℕ → ℕ → List ℕ
-nextName s i = nameAt s (animationsAt + i * 28 + 4)
-
-unfoldable pub contentName : List ℕ → ℕ → List ℕ
-contentName s i = nameAt s (contentsAt s + i * 28 + 4)
+nextName s i = nameAt s (animationsAt + i * animationBytes + rowName)
 
 unfoldable pub textureName : List ℕ → ℕ → List ℕ
-textureName s i = nameAt s (texturesAt s + i * 24)
+textureName s i = nameAt s (texturesAt s + i * nameBytes)

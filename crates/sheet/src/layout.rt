@@ -4,19 +4,20 @@ use crate::rows::ANIMATION_BYTES;
 use crate::rows::CONTENT_BYTES;
 use crate::rows::HEAD;
 use crate::rows::KEY_BYTES;
-use crate::rows::NAME_BYTES;
 use crate::rows::ROW_NAME;
 use crate::rows::TARGET_BYTES;
+use field::NAME_BYTES;
 use field::byte_at;
 use field::u16_at;
 ghost use mathlib.Core.Path.{_≡_};
-ghost use Prim.Native.Nat.{ℕ, _+_, _-_, _*_, _<_, _≤_};
+ghost use Prim.Native.Nat.{_+_, _-_, _*_, _<_, _≤_};
 ghost use lib.ListN.{length};
 ghost use Rattle.laws.specs.Below.{allBelow};
+ghost use Rattle.sheet.specs.Sizes.{headBytes, animationBytes, contentBytes, targetBytes, animationsAt};
 ghost use Rattle.sheet.specs.Sheet.{sizesOk, lengthOk, animationOk, contentOk, targetFrom, targetsOk, sheetOk};
 
 fn sizes_ok(s: &[u8]) -> bool
-    requires { ⌜ 12 ≤ length (now s) ⌝ }
+    requires { ⌜ headBytes ≤ length (now s) ⌝ }
     ensures { λ r. ⌜ r ≡ sizesOk (now (s .entry)) ⌝ }
 {
     let a = u16_at(s, 0);
@@ -30,7 +31,7 @@ fn sizes_ok(s: &[u8]) -> bool
 }
 
 pub fn length_ok(s: &[u8]) -> bool
-    requires { ⌜ 12 ≤ length (now s) ⌝ }
+    requires { ⌜ headBytes ≤ length (now s) ⌝ }
     ensures { λ r. ⌜ r ≡ lengthOk (now (s .entry)) ⌝ }
 {
     s.len()
@@ -43,7 +44,7 @@ pub fn length_ok(s: &[u8]) -> bool
 }
 
 fn animation_ok(s: &[u8], i: usize) -> bool
-    requires { ⌜ 12 + i * 28 + 28 ≤ length (now s) ⌝ }
+    requires { ⌜ animationsAt + i * animationBytes + animationBytes ≤ length (now s) ⌝ }
     ensures { λ r. ⌜ r ≡ animationOk (now (s .entry)) i ⌝ }
 {
     let at = HEAD + i * ANIMATION_BYTES;
@@ -52,7 +53,7 @@ fn animation_ok(s: &[u8], i: usize) -> bool
 }
 
 fn animations_ok(s: &[u8], n: usize) -> bool
-    requires { ⌜ 12 + n * 28 ≤ length (now s) ⌝ }
+    requires { ⌜ animationsAt + n * animationBytes ≤ length (now s) ⌝ }
     ensures { λ r. ⌜ r ≡ allBelow n (animationOk (now (s .entry))) ⌝ }
 {
     let mut i = 0;
@@ -74,7 +75,7 @@ fn before(i: usize) -> usize
 }
 
 fn content_ok(s: &[u8], base: usize, a: usize, i: usize) -> bool
-    requires { ⌜ base + i * 28 + 28 ≤ length (now s) ⌝ }
+    requires { ⌜ base + i * contentBytes + contentBytes ≤ length (now s) ⌝ }
     ensures { λ r. ⌜ r ≡ contentOk (now (s .entry)) base a i ⌝ }
 {
     let at = base + i * CONTENT_BYTES;
@@ -86,7 +87,7 @@ fn content_ok(s: &[u8], base: usize, a: usize, i: usize) -> bool
 }
 
 fn contents_ok(s: &[u8], base: usize, a: usize, n: usize) -> bool
-    requires { ⌜ base + n * 28 ≤ length (now s) ⌝ }
+    requires { ⌜ base + n * contentBytes ≤ length (now s) ⌝ }
     ensures { λ r. ⌜ r ≡ allBelow n (contentOk (now (s .entry)) base a) ⌝ }
 {
     let mut i = 0;
@@ -101,7 +102,7 @@ fn contents_ok(s: &[u8], base: usize, a: usize, n: usize) -> bool
 }
 
 fn target_from(s: &[u8], base: usize, c: usize, i: usize, f: usize) -> bool
-    requires { ⌜ base + i * 14 + 14 ≤ length (now s) ⌝ }
+    requires { ⌜ base + i * targetBytes + targetBytes ≤ length (now s) ⌝ }
     ensures { λ r. ⌜ r ≡ targetFrom (now (s .entry)) base c i f ⌝ }
 {
     let at = base + i * TARGET_BYTES;
@@ -115,7 +116,7 @@ fn target_from(s: &[u8], base: usize, c: usize, i: usize, f: usize) -> bool
 
 // `sum` is the sum of the earlier counts.
 fn targets_ok(s: &[u8], base: usize, c: usize, n: usize, k: usize) -> bool
-    requires { ⌜ (base + n * 14 ≤ length (now s)) × (n < 65536) ⌝ }
+    requires { ⌜ (base + n * targetBytes ≤ length (now s)) × (n < 65536) ⌝ }
     ensures { λ r. ⌜ r ≡ targetsOk (now (s .entry)) base c n k ⌝ }
 {
     let mut sum = 0usize;

@@ -1,12 +1,13 @@
 // The sizes and the rows of a sheet, by value, and the names in it, as parts of the lent slice.
 // The rows ask for a checked sheet, so that whoever holds one needs no index proof of its own.
+use field::NAME_BYTES;
 use field::byte_at;
 use field::u16_at;
 ghost use mathlib.Core.Path.{_≡_};
-ghost use Prim.Native.Nat.{ℕ, _+_, _*_, _<_, _≤_};
+ghost use Prim.Native.Nat.{_+_, _*_, _<_, _≤_};
 ghost use lib.ListN.{length};
-ghost use Rattle.sheet.specs.Sizes.{animationCount, contentCount, targetCount, keyCount, textureCount, contentsAt, targetsAt, texturesAt};
-ghost use Rattle.sheet.specs.Rows.{animationRow, contentRow, targetAt, targetRow, nextName, contentName, textureName};
+ghost use Rattle.sheet.specs.Sizes.{animationCount, contentCount, targetCount, keyCount, textureCount, headBytes, targetBytes, contentsAt, targetsAt, texturesAt};
+ghost use Rattle.sheet.specs.Rows.{animationRow, contentRow, targetAt, targetRow, nextName, textureName};
 ghost use Rattle.sheet.specs.Checked.{Checked};
 
 // How many bytes the sizes take, and each row.
@@ -17,8 +18,6 @@ pub const ANIMATION_BYTES: usize = 28;
 pub const CONTENT_BYTES: usize = 28;
 
 pub const TARGET_BYTES: usize = 14;
-
-pub const NAME_BYTES: usize = 24;
 
 // A key's frame, and its point.
 pub const KEY_BYTES: usize = 12;
@@ -50,56 +49,49 @@ pub struct Target {
 // ---- sizes, and where the tables start
 
 pub fn animation_count(s: &[u8]) -> usize
-    requires { ⌜ 12 ≤ length (now s) ⌝ }
+    requires { ⌜ headBytes ≤ length (now s) ⌝ }
     ensures { λ r. ⌜ r ≡ animationCount (now (s .entry)) ⌝ }
 {
     u16_at(s, 0)
 }
 
-pub fn content_count(s: &[u8]) -> usize
-    requires { ⌜ 12 ≤ length (now s) ⌝ }
-    ensures { λ r. ⌜ r ≡ contentCount (now (s .entry)) ⌝ }
-{
-    u16_at(s, 2)
-}
-
 pub fn target_count(s: &[u8]) -> usize
-    requires { ⌜ 12 ≤ length (now s) ⌝ }
+    requires { ⌜ headBytes ≤ length (now s) ⌝ }
     ensures { λ r. ⌜ r ≡ targetCount (now (s .entry)) ⌝ }
 {
     u16_at(s, 4)
 }
 
 pub fn key_count(s: &[u8]) -> usize
-    requires { ⌜ 12 ≤ length (now s) ⌝ }
+    requires { ⌜ headBytes ≤ length (now s) ⌝ }
     ensures { λ r. ⌜ r ≡ keyCount (now (s .entry)) ⌝ }
 {
     u16_at(s, 6)
 }
 
 pub fn texture_count(s: &[u8]) -> usize
-    requires { ⌜ 12 ≤ length (now s) ⌝ }
+    requires { ⌜ headBytes ≤ length (now s) ⌝ }
     ensures { λ r. ⌜ r ≡ textureCount (now (s .entry)) ⌝ }
 {
     u16_at(s, 8)
 }
 
 pub fn contents_at(s: &[u8]) -> usize
-    requires { ⌜ 12 ≤ length (now s) ⌝ }
+    requires { ⌜ headBytes ≤ length (now s) ⌝ }
     ensures { λ r. ⌜ r ≡ contentsAt (now (s .entry)) ⌝ }
 {
     HEAD + u16_at(s, 0) * ANIMATION_BYTES
 }
 
 pub fn targets_at(s: &[u8]) -> usize
-    requires { ⌜ 12 ≤ length (now s) ⌝ }
+    requires { ⌜ headBytes ≤ length (now s) ⌝ }
     ensures { λ r. ⌜ r ≡ targetsAt (now (s .entry)) ⌝ }
 {
     HEAD + u16_at(s, 0) * ANIMATION_BYTES + u16_at(s, 2) * CONTENT_BYTES
 }
 
 pub fn textures_at(s: &[u8]) -> usize
-    requires { ⌜ 12 ≤ length (now s) ⌝ }
+    requires { ⌜ headBytes ≤ length (now s) ⌝ }
     ensures { λ r. ⌜ r ≡ texturesAt (now (s .entry)) ⌝ }
 {
     HEAD
@@ -135,7 +127,7 @@ pub fn content_row(s: &[u8], i: usize) -> Content
 
 // The target's row at a place, for loops that keep where the targets start.
 pub fn target_at(s: &[u8], at: usize) -> Target
-    requires { ⌜ at + 14 ≤ length (now s) ⌝ }
+    requires { ⌜ at + targetBytes ≤ length (now s) ⌝ }
     ensures { λ r. ⌜ r ≡ targetAt (now (s .entry)) at ⌝ }
 {
     Target {
@@ -163,13 +155,6 @@ pub fn next_name<'a>(s: &'a [u8], i: usize) -> &'a [u8]
     ensures { λ r. ⌜ now r ≡ nextName (now (s .entry)) i ⌝ }
 {
     field::name_at(s, HEAD + i * ANIMATION_BYTES + ROW_NAME)
-}
-
-pub fn content_name<'a>(s: &'a [u8], i: usize) -> &'a [u8]
-    requires { ⌜ Checked (now s) × (i < contentCount (now s)) ⌝ }
-    ensures { λ r. ⌜ now r ≡ contentName (now (s .entry)) i ⌝ }
-{
-    field::name_at(s, contents_at(s) + i * CONTENT_BYTES + ROW_NAME)
 }
 
 pub fn texture_name<'a>(s: &'a [u8], i: usize) -> &'a [u8]

@@ -11,3 +11,4 @@ pub mod random;
 pub mod readings;
 pub mod sample;
 pub mod sheets;
+pub mod stored;

@@ -9,7 +9,6 @@ pub const SHEETS: u8 = 2;
 pub const BOOKS: u8 = 3;
 pub const UVS: u8 = 4;
 pub const CORNERS: u8 = 5;
-pub const CALLS: u8 = 6;
 
 const LONGEST: usize = 65_536;
 const HEAD: usize = 8;

@@ -1,15 +1,16 @@
+-- Every byte passed is zero, and 24 of them are an empty name; another byte ends the loop.
 use native.Mathlib.Omega.{arith}
 use Prim.Native.Nat.{_-_}
 use Rattle.laws.specs.Below.{Passed, passed-none, passed-more, passed-not, passed-all}
-use Rattle.field.specs.Name.{zeroByte, emptyName}
+use Rattle.field.specs.Name.{nameBytes, zeroByte, emptyName}
 use Rattle.field.proofs.empty_name.Statement.{statement}
 use Rattle.field.proofs.empty_name.Tie as tie
 
 abbrev Inv-loop : tie.InvT-loop
-Inv-loop s at k₀ k = Passed 24 (zeroByte s at) k
+Inv-loop s at k₀ k = Passed nameBytes (zeroByte s at) k
 
 abbrev μ-loop : tie.MeasureT-loop
-μ-loop s at k₀ k = 24 - k
+μ-loop s at k₀ k = nameBytes - k
 
 loop-holds : tie.Need-loop-holds Inv-loop μ-loop
 loop-holds c = passed-none _ _

@@ -1,3 +1,4 @@
+-- The number of the four bytes' pattern; it is finite, so its bits are kept.
 use mathlib.Core.Path.{sym, _∙_, ap}
 use Rattle.float.specs.Numbers.{#}
 use Rattle.float.specs.Bits.{finite-bits, finite-no-nan}

@@ -1,106 +1,142 @@
-use Prim.Native.Nat.{_-_, _%_}
+-- The search answers the first row with the name: every row passed differs in its first eight bytes, its last eight or one between, and the row found in none.
+use Prim.Native.Nat.{_-_}
 use mathlib.Core.Path.{_≡_, refl, sym}
 use native.Mathlib.Omega.{arith}
 use borrow.Author.Tests.{eq-eqb, ne-eqb}
-use Rattle.laws.specs.Below.{Passed, passed-none, passed-all}
+use Rattle.laws.specs.Below.{Passed, passed-more, passed-not}
 use Rattle.laws.specs.First.{Missed, missed-none, missed-more, missed-at, missed-all}
-use Rattle.field.specs.Name.{sameByte, sameName, rowNamed, findName}
-use Rattle.field.specs.Word.{passed-word, other-word}
+use Rattle.laws.specs.declared.Found.the-variants.{Nothing}
+use Rattle.field.specs.Name.{nameBytes, sameByte, sameName, rowNamed, findName}
+use Rattle.field.specs.Word.{first-word, other-first, other-last, ends-same}
 use Rattle.field.proofs.find_name.Statement.{statement}
 use Rattle.field.proofs.find_name.Tie as tie
-use Rattle.field.proofs.find_name.Reads as reads
-use Rattle.field.proofs.find_name.Lts as lts
-use Rattle.field.proofs.word_at.Reads as word-at-reads
 
 abbrev Inv-bytes : tie.InvT-bytes
-Inv-bytes table base stride rows names at next i place k₀ k = Passed 24 (sameByte table place names at) k × (k % 8 ≡ 0)
+Inv-bytes table base stride rows names at found next i place k₀ k = Passed nameBytes (sameByte table place names at) k
 
 abbrev μ-bytes : tie.MeasureT-bytes
-μ-bytes table base stride rows names at next i place k₀ k = 24 - k
+μ-bytes table base stride rows names at found next i place k₀ k = nameBytes - k
 
 abbrev Inv-rows : tie.InvT-rows
-Inv-rows table base stride rows names at next₀ next = Missed rows (rowNamed table base stride names at) next
+Inv-rows table base stride rows names at found₀ next₀ found next = Missed rows (rowNamed table base stride names at) next × (found ≡ Nothing)
 
 abbrev μ-rows : tie.MeasureT-rows
-μ-rows table base stride rows names at next₀ next = rows - next
+μ-rows table base stride rows names at found₀ next₀ found next = rows - next
 
--- src/lib.rt:176:5
 rows-holds : tie.Need-rows-holds Inv-bytes μ-bytes Inv-rows μ-rows
-rows-holds c = missed-none _ _
+rows-holds c = (missed-none _ _, refl)
 
--- src/lib.rt:178:9
 add-next : tie.Need-add-next Inv-bytes μ-bytes Inv-rows μ-rows
 add-next c = omega arith
 
--- src/lib.rt:179:28
 mul-place : tie.Need-mul-place Inv-bytes μ-bytes Inv-rows μ-rows
 mul-place c = let b = c .before in omega (arith, b .before .before .before .pre .0 .within (b .rows .next) (omega arith))
 
--- src/lib.rt:179:21
 add-place : tie.Need-add-place Inv-bytes μ-bytes Inv-rows μ-rows
 add-place c = let b = c .before in omega (arith, b .before .before .before .pre .0 .within (b .rows .next) (omega arith))
 
--- src/lib.rt:181:9
-bytes-holds : tie.Need-bytes-holds Inv-bytes μ-bytes Inv-rows μ-rows
-bytes-holds c = (passed-none _ _, refl)
-
--- src/lib.rt:182:31
-add-word-at : tie.Need-add-word-at Inv-bytes μ-bytes Inv-rows μ-rows
-add-word-at c = let b = c .before .before .before in omega (arith, b .before .before .before .pre .0 .within (b .rows .next) (omega arith))
-
--- src/lib.rt:182:16
 word-at-requires : tie.Need-word-at-requires Inv-bytes μ-bytes Inv-rows μ-rows
-word-at-requires c κs = let b = c .before .before .before in omega (arith, b .before .before .before .pre .0 .within (b .rows .next) (omega arith))
+word-at-requires c κs = let b = c .before in omega (arith, b .before .before .before .pre .0 .within (b .rows .next) (omega arith))
 
--- src/lib.rt:182:60
-add-word-at-2 : tie.Need-add-word-at-2 Inv-bytes μ-bytes Inv-rows μ-rows
-add-word-at-2 c = omega arith
-
--- src/lib.rt:182:45
 word-at-requires-2 : tie.Need-word-at-requires-2 Inv-bytes μ-bytes Inv-rows μ-rows
 word-at-requires-2 c κs = omega arith
 
--- src/lib.rt:176:5
 rows-less : tie.Need-rows-less Inv-bytes μ-bytes Inv-rows μ-rows
 rows-less c = omega arith
 
--- src/lib.rt:176:5
 rows-again : tie.Need-rows-again Inv-bytes μ-bytes Inv-rows μ-rows
 unfolding rowNamed
 rows-again c =
-    let r = c .before .before .before .before .before .before in
-    let k = r .before in
-    missed-more (r .rows .inv) (omega arith)
-    (other-word _ _ (λ i. omega (arith, k .before .shared-slice-known .given i)) (λ i. omega (arith, k .shared-slice-known2 .given i)) _ _ (c .before .before .before .before .bytes .k) (omega arith)
-    (rw (← c .before .before .word-at .ensures, ← c .before .word-at2 .ensures) (ne-eqb _ _ (c .if1 .taken))))
+    let w = c .before in
+    let r = w .before .before .before in
+    let k = r .before in (
+      missed-more (r .rows .inv .0) (omega arith)
+          (other-first _ _ (λ i. omega (arith, k .before .shared-slice-known .given i)) (λ i. omega (arith, k .shared-slice-known2 .given i)) _ _
+          (rw (← w .before .word-at .ensures, ← w .word-at2 .ensures) (ne-eqb _ _ (c .if1 .taken)))),
+      r .rows .inv .1,
+    )
 
--- src/lib.rt:185:13
+add-word-at : tie.Need-add-word-at Inv-bytes μ-bytes Inv-rows μ-rows
+add-word-at c = let r = c .before .before .before .before in omega (arith, r .before .before .before .pre .0 .within (r .rows .next) (omega arith))
+
+word-at-requires-3 : tie.Need-word-at-requires-3 Inv-bytes μ-bytes Inv-rows μ-rows
+word-at-requires-3 c κs = let r = c .before .before .before .before in omega (arith, r .before .before .before .pre .0 .within (r .rows .next) (omega arith))
+
+add-word-at-2 : tie.Need-add-word-at-2 Inv-bytes μ-bytes Inv-rows μ-rows
+add-word-at-2 c = omega arith
+
+word-at-requires-4 : tie.Need-word-at-requires-4 Inv-bytes μ-bytes Inv-rows μ-rows
+word-at-requires-4 c κs = omega arith
+
+rows-less-2 : tie.Need-rows-less-2 Inv-bytes μ-bytes Inv-rows μ-rows
+rows-less-2 c = omega arith
+
+rows-again-2 : tie.Need-rows-again-2 Inv-bytes μ-bytes Inv-rows μ-rows
+unfolding rowNamed
+rows-again-2 c =
+    let w = c .before in
+    let r = w .before .before .before .before .before .before in
+    let k = r .before in (
+      missed-more (r .rows .inv .0) (omega arith)
+          (other-last _ _ (λ i. omega (arith, k .before .shared-slice-known .given i)) (λ i. omega (arith, k .shared-slice-known2 .given i)) _ _
+          (rw (← w .before .word-at3 .ensures, ← w .word-at4 .ensures) (ne-eqb _ _ (c .if2 .taken)))),
+      r .rows .inv .1,
+    )
+
+bytes-holds : tie.Need-bytes-holds Inv-bytes μ-bytes Inv-rows μ-rows
+bytes-holds c =
+    let t = c .before .before .before in
+    let w = t .before in
+    let k = w .before .before .before .before in
+    first-word _ _ (λ i. omega (arith, k .before .shared-slice-known .given i)) (λ i. omega (arith, k .shared-slice-known2 .given i)) _ _
+    (rw (← w .before .word-at .ensures, ← w .word-at2 .ensures) (eq-eqb _ _ (t .if1 .left)))
+
+add-if3 : tie.Need-add-if3 Inv-bytes μ-bytes Inv-rows μ-rows
+add-if3 c = let r = c .before .before .before .before .before .before .before .before .before in omega (arith, r .before .before .before .pre .0 .within (r .rows .next) (omega arith))
+
+shared-slice-read-if3 : tie.Need-shared-slice-read-if3 Inv-bytes μ-bytes Inv-rows μ-rows
+shared-slice-read-if3 c = let r = c .before .before .before .before .before .before .before .before .before .before in omega (arith, r .before .before .before .pre .0 .within (r .rows .next) (omega arith))
+
+add-if3-2 : tie.Need-add-if3-2 Inv-bytes μ-bytes Inv-rows μ-rows
+add-if3-2 c = omega arith
+
+shared-slice-read-if3-2 : tie.Need-shared-slice-read-if3-2 Inv-bytes μ-bytes Inv-rows μ-rows
+shared-slice-read-if3-2 c = omega arith
+
+rows-less-3 : tie.Need-rows-less-3 Inv-bytes μ-bytes Inv-rows μ-rows
+rows-less-3 c = omega arith
+
+rows-again-3 : tie.Need-rows-again-3 Inv-bytes μ-bytes Inv-rows μ-rows
+unfolding rowNamed sameName sameByte
+rows-again-3 c =
+    let b = c .before .before .before .before in
+    let r = b .before .before .before .before .before .before .before .before in
+    (missed-more (r .rows .inv .0) (omega arith) (sym (passed-not (b .bytes .inv) (omega arith) (ne-eqb _ _ (c .if3 .taken)))), r .rows .inv .1)
+
 add-k : tie.Need-add-k Inv-bytes μ-bytes Inv-rows μ-rows
 add-k c = omega arith
 
--- src/lib.rt:181:9
 bytes-less : tie.Need-bytes-less Inv-bytes μ-bytes Inv-rows μ-rows
 bytes-less c = omega arith
 
--- src/lib.rt:181:9
 bytes-again : tie.Need-bytes-again Inv-bytes μ-bytes Inv-rows μ-rows
-bytes-again c =
-    let v = c .before .before .before .before .bytes .inv in
-    let k = c .before .before .before .before .before .before .before in (
-      passed-word _ _ (λ i. omega (arith, k .before .shared-slice-known .given i)) (λ i. omega (arith, k .shared-slice-known2 .given i)) _ _ _ (v .0) (omega arith)
-          (rw (← c .before .before .word-at .ensures, ← c .before .word-at2 .ensures) (eq-eqb _ _ (c .if1 .left))),
-      omega arith,
-    )
+unfolding sameByte
+bytes-again c = passed-more (c .before .before .before .before .bytes .inv) (omega arith) (eq-eqb _ _ (c .if3 .left))
 
--- src/lib.rt:187:9
 returns : tie.Need-returns Inv-bytes μ-bytes Inv-rows μ-rows
-unfolding findName rowNamed sameName
-returns c = missed-at (c .before .before .before .rows .inv) (omega arith) (sym (passed-all (c .before .bytes .inv .0) (omega arith)))
-
--- src/lib.rt:164:1
-returns-2 : tie.Need-returns-2 Inv-bytes μ-bytes Inv-rows μ-rows
 unfolding findName
-returns-2 c = missed-all (c .before .rows .inv) (omega arith)
+returns c = let r = c .before .rows in rw (r .inv .1) (missed-all (r .inv .0) (omega arith))
+
+returns-2 : tie.Need-returns-2 Inv-bytes μ-bytes Inv-rows μ-rows
+unfolding findName rowNamed sameName
+returns-2 c =
+    let b = c .before in
+    let r = b .before .before .before .before .before .before .before .before in
+    let k = r .before in
+    let a = b .before in
+    missed-at (r .rows .inv .0) (omega arith)
+    (ends-same _ _ (λ i. omega (arith, k .before .shared-slice-known .given i)) (λ i. omega (arith, k .shared-slice-known2 .given i)) _ _ _ (b .bytes .inv) (omega arith)
+    (rw (← a .before .before .word-at3 .ensures, ← a .before .word-at4 .ensures) (eq-eqb _ _ (a .if2 .left))))
 
 pub find-name-spec : {M : Type 1} → statement M
 find-name-spec =
@@ -114,13 +150,23 @@ find-name-spec =
     add-next
     mul-place
     add-place
-    bytes-holds
-    add-word-at
     word-at-requires
-    add-word-at-2
     word-at-requires-2
     rows-less
     rows-again
+    add-word-at
+    word-at-requires-3
+    add-word-at-2
+    word-at-requires-4
+    rows-less-2
+    rows-again-2
+    bytes-holds
+    add-if3
+    shared-slice-read-if3
+    add-if3-2
+    shared-slice-read-if3-2
+    rows-less-3
+    rows-again-3
     add-k
     bytes-less
     bytes-again

@@ -1,3 +1,4 @@
+-- The exponent's eight bits are all ones exactly in an infinity and in a NaN.
 use mathlib.Core.Path.{sym, _∙_, ap}
 use mathlib.Core.Bool.{not}
 use lib.Dec.{eqb}

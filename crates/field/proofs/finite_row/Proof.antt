@@ -1,3 +1,4 @@
+-- After k turns the answer is whether the first k floats are finite.
 use native.Mathlib.Omega.{arith}
 use Prim.Native.Nat.{_-_}
 use Rattle.laws.specs.Joined.{Joined, joined-none, joined-more, joined-all}

@@ -1,3 +1,4 @@
+-- No row passed has row i's name; one that has it ends the loop.
 use native.Mathlib.Omega.{arith}
 use Prim.Native.Nat.{_-_}
 use mathlib.Core.Bool.{not}

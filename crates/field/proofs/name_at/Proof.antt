@@ -1,3 +1,4 @@
+-- The part that is handed back is the 24 bytes of the name.
 use native.Mathlib.Nat.{add-sub-cancel-left}
 use borrow.Author.Needs.{needs}
 use Rattle.field.proofs.name_at.Statement.{statement}

@@ -1,3 +1,4 @@
+-- A row's name passes where it is not empty and no earlier row has it.
 use native.Mathlib.Omega.{arith}
 use Rattle.field.specs.Name.{nameOk}
 use borrow.Author.Needs.{needs}

@@ -1,3 +1,4 @@
+-- Every row passed has a name of its own; the first that has none ends the loop.
 use native.Mathlib.Omega.{arith}
 use Prim.Native.Nat.{_-_}
 use Rattle.laws.specs.Below.{Passed, passed-none, passed-more, passed-not, passed-all}

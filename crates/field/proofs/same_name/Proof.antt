@@ -1,11 +1,11 @@
+-- Two fields hold one name exactly when their three words of eight bytes are the same.
 use native.Mathlib.Omega.{arith}
-use Prim.Native.Nat.{ℕ, _+_, _<_}
-use mathlib.Core.Bool.{Bool, _&&_}
-use mathlib.Core.Path.{_≡_, sym, _∙_, ap}
+use Prim.Native.Nat.{_+_}
+use mathlib.Core.Bool.{_&&_}
+use mathlib.Core.Path.{_≡_}
 use borrow.Author.Tests.{eq-eqb, ne-eqb}
 use denote.Ref.{now}
 use lib.Dec.{eqb}
-use Rattle.field.specs.Read.{byteAt}
 use Rattle.field.specs.Name.{sameName}
 use Rattle.field.specs.Word.{wordAt, same-words}
 use borrow.Author.Needs.{needs}

@@ -1,3 +1,4 @@
+-- Two bytes, the lower first, are a number below 65,536.
 use Rattle.field.specs.Read.{u16At}
 use borrow.Author.Needs.{needs}
 use Rattle.field.proofs.u16_at.Statement.{statement}

@@ -1,3 +1,4 @@
+-- Two u16, the lower first, fit 32 bits.
 use Rattle.field.specs.Read.{u32At}
 use borrow.Author.Needs.{needs}
 use Rattle.field.proofs.u32_at.Statement.{statement}

@@ -1,3 +1,4 @@
+-- Two u32, the lower first, fit 64 bits.
 use Rattle.field.specs.Word.{wordAt}
 use borrow.Author.Needs.{needs}
 use Rattle.field.proofs.word_at.Statement.{statement}

@@ -1,3 +1,4 @@
+-- The byte read is the field's own.
 use Rattle.field.specs.Name.{zeroByte}
 use borrow.Author.Needs.{needs}
 use Rattle.field.proofs.zero_byte.Statement.{statement}

@@ -10,11 +10,12 @@ pub mod machine;
 pub mod player;
 pub mod readings;
 pub mod reference;
-pub mod sample;
 pub mod short;
 pub mod some;
 pub mod spoil;
+pub mod stored;
 pub mod table;
+pub mod text;
 pub mod views;
 pub mod walk;
 
@@ -58,8 +59,7 @@ pub enum Call {
         material: u16,
         channel: u16,
     },
-    /// 1: the marks are one short, 2: the numbers; 3 and 4: one long, which no
-    /// stored list has.
+    /// 1: the marks are one short, 2: the numbers; 3 and 4: one long.
     ReadAll {
         short: u8,
     },
@@ -129,7 +129,7 @@ pub enum Tick {
 }
 
 impl Tick {
-    /// The number of its kind, which a stored list has.
+    /// The number of its kind.
     pub fn number(&self) -> u8 {
         match self {
             Tick::Idle => 0,
@@ -176,7 +176,7 @@ impl View {
 }
 
 impl Call {
-    /// The number of its kind, which a stored list has.
+    /// The number of its kind.
     pub fn code(&self) -> u8 {
         match self {
             Call::Play(_) => 0,

@@ -151,7 +151,7 @@ fn material_told(sheet: &Sheet, row: &Material, state: &AnimationState, call: &C
 
 /// Document 01, "Channels": visible is shown or hidden, all else of a pane a
 /// number.
-fn pane_reading(channel: usize, read: Option<f32>) -> One {
+pub fn pane_reading(channel: usize, read: Option<f32>) -> One {
     const VISIBLE: usize = 10;
     match (read, channel) {
         (None, _) => One::Nothing,
@@ -161,7 +161,7 @@ fn pane_reading(channel: usize, read: Option<f32>) -> One {
 }
 
 /// Three texture rows after the layers' numbers, eight levels at the end.
-fn material_reading(channel: usize, read: Option<f32>) -> One {
+pub fn material_reading(channel: usize, read: Option<f32>) -> One {
     match (read, channel) {
         (None, _) => One::Nothing,
         (Some(x), 15..=17) => One::Texture(x as u16),

@@ -26,8 +26,8 @@ pub struct Walk {
     back: Vec<Spoil>,
     /// Spoils that are still to be made.
     due: Vec<Spoil>,
-    /// Whether sheet and book may be spoiled too.
-    all_spoils: bool,
+    /// Whether states are spoiled.
+    spoils: bool,
 }
 
 /// A step, with the answer where it is a call.
@@ -58,21 +58,16 @@ impl Walk {
             left: steps,
             back: Vec::new(),
             due: Vec::new(),
-            all_spoils: true,
+            spoils: true,
         }
     }
 
-    /// Without spoils of sheet and book, which no stored list holds.
-    pub fn to_be_stored(self) -> Self {
+    /// The same with calls alone, which a list in text can say.
+    pub fn without_spoils(self) -> Self {
         Self {
-            all_spoils: false,
+            spoils: false,
             ..self
         }
-    }
-
-    /// Goes on in a mode for so many steps.
-    pub fn go(&mut self, mode: Mode, turns: usize) {
-        (self.mode, self.turns) = (mode, turns);
     }
 
     /// Whether the plain machine is still beside.
@@ -95,23 +90,18 @@ impl Walk {
                 return None;
             }
             (self.mode, self.turns) = some::mode(&mut self.random, &self.held);
+            if self.mode == Mode::Spoiled && !self.spoils {
+                self.mode = Mode::Mixed;
+            }
         }
         self.turns -= 1;
         self.left -= 1;
         if self.mode == Mode::Spoiled && self.back.is_empty() {
-            self.due = self.some_spoils();
+            self.due = spoil::some::any(&mut self.random, &self.held);
             return self.step();
         }
         let call = some::call(&mut self.random, &self.held, self.mode);
         Some(self.call(call))
-    }
-
-    fn some_spoils(&mut self) -> Vec<Spoil> {
-        if self.all_spoils {
-            spoil::some::any(&mut self.random, &self.held)
-        } else {
-            spoil::some::stored(&mut self.random, &self.held)
-        }
     }
 
     /// Makes a spoil, and gives the one that takes it back.
@@ -124,17 +114,9 @@ impl Walk {
     }
 
     /// The same, and keeps it until it is taken back.
-    pub fn spoil_for(&mut self, spoil: &Spoil) -> Spoil {
+    fn spoil_for(&mut self, spoil: &Spoil) {
         let back = self.spoil(spoil);
-        self.back.push(back.clone());
-        back
-    }
-
-    /// Takes the last kept spoil back.
-    pub fn take_back(&mut self) {
-        if let Some(back) = self.back.pop() {
-            self.spoil(&back);
-        }
+        self.back.push(back);
     }
 
     /// Makes a call.

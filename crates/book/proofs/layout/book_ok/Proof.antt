@@ -1,3 +1,4 @@
+-- Each test is made once the ones before it have shown that its bytes are there.
 use native.Mathlib.Omega.{arith}
 use mathlib.Core.Path.{_≡_}
 use mathlib.Core.Bool.{true}

@@ -1,3 +1,4 @@
+-- The fifteen floats after the four names are tested.
 use Rattle.book.specs.Book.{materialOk}
 use borrow.Author.Needs.{needs}
 use Rattle.book.proofs.layout.material_ok.Statement.{statement}

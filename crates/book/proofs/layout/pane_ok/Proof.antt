@@ -1,3 +1,4 @@
+-- Parent, flags, origins, padding and the ten floats are tested in the row's own bytes.
 use Rattle.book.specs.Book.{paneOk}
 use borrow.Author.Needs.{needs}
 use Rattle.book.proofs.layout.pane_ok.Statement.{statement}

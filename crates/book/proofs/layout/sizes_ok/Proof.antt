@@ -1,3 +1,4 @@
+-- Both sizes are held to document 01's ranges, and the length to what they say.
 use Rattle.book.specs.Book.{sizesOk}
 use borrow.Author.Needs.{needs}
 use Rattle.book.proofs.layout.sizes_ok.Statement.{statement}

@@ -1,3 +1,4 @@
+-- The field lies within a checked book.
 use Rattle.book.specs.Rows.{materialName}
 use borrow.Author.Needs.{needs}
 use Rattle.book.proofs.rows.material_name.Statement.{statement}

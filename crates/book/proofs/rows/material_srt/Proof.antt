@@ -1,8 +1,9 @@
+-- The five floats lie within a checked book, and are among the fifteen that were found finite.
 use native.Mathlib.Omega.{arith}
 use Prim.Native.Nat.{_+_, _*_}
 use denote.Ref.{now}
 use Rattle.field.specs.Read.{FiniteFrom, finite-part}
-use Rattle.book.specs.Sizes.{materialsAt}
+use Rattle.book.specs.Sizes.{materialBytes, materialsAt}
 use Rattle.book.specs.Rows.{materialSrt}
 use Rattle.book.specs.Checked.{material-finite}
 use borrow.Author.Needs.{needs}
@@ -10,7 +11,7 @@ use Rattle.book.proofs.rows.material_srt.Statement.{statement}
 use Rattle.book.proofs.rows.material_srt.Tie as tie
 
 -- the material's fifteen floats are finite
-floats : (c : tie.After-shared-slice-known) → let a = c .before .args in FiniteFrom (now (a .b)) (materialsAt (now (a .b)) + a .i * 156 + 96) 15
+floats : (c : tie.After-shared-slice-known) → let a = c .before .args in FiniteFrom (now (a .b)) (materialsAt (now (a .b)) + a .i * materialBytes + 96) 15
 floats c = material-finite (c .before .pre .0) (c .before .args .i) (c .before .pre .1 .0)
 
 materials-at-requires : tie.Need-materials-at-requires

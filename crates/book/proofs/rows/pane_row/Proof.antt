@@ -1,7 +1,9 @@
+-- The fields are the bytes of the pane's row, and its floats are the ten that were found finite.
 use native.Mathlib.Omega.{arith}
 use Prim.Native.Nat.{_+_, _*_}
 use denote.Ref.{now}
 use Rattle.field.specs.Read.{FiniteFrom, finite-part}
+use Rattle.book.specs.Sizes.{paneBytes, panesAt}
 use Rattle.book.specs.Rows.{paneRow}
 use Rattle.book.specs.Checked.{pane-finite}
 use borrow.Author.Needs.{needs}
@@ -9,7 +11,7 @@ use Rattle.book.proofs.rows.pane_row.Statement.{statement}
 use Rattle.book.proofs.rows.pane_row.Tie as tie
 
 -- the pane's ten floats are finite
-floats : (c : tie.After-shared-slice-known) → FiniteFrom (now (c .before .args .b)) (4 + c .before .args .i * 72 + 32) 10
+floats : (c : tie.After-shared-slice-known) → FiniteFrom (now (c .before .args .b)) (panesAt + c .before .args .i * paneBytes + 32) 10
 floats c = pane-finite (c .before .pre .0) (c .before .args .i) (c .before .pre .1)
 
 mul-at : tie.Need-mul-at

@@ -1,3 +1,4 @@
+-- The three floats are read where they are known to be finite.
 use native.Mathlib.Omega.{arith}
 use borrow.Author.Needs.{needs}
 use Rattle.book.proofs.rows.vector3_at.Statement.{statement}

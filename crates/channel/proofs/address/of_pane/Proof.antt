@@ -1,20 +1,16 @@
+-- A pane's channels follow those of the panes before it.
 use mathlib.Core.Path.{refl}
 use Rattle.channel.specs.Channel.{ofPane}
 use borrow.Author.Needs.{needs}
 use Rattle.channel.proofs.address.of_pane.Statement.{statement}
 use Rattle.channel.proofs.address.of_pane.Tie as tie
-use Rattle.channel.proofs.address.of_pane.Reads as reads
-use Rattle.channel.proofs.address.of_pane.Lts as lts
 
--- src/address.rt:124:5
 mul-result : tie.Need-mul-result
 mul-result c = search needs
 
--- src/address.rt:124:5
 add-result : tie.Need-add-result
 add-result c = search needs
 
--- src/address.rt:120:1
 returns : tie.Need-returns
 unfolding ofPane
 returns c = refl

@@ -1,7 +1,8 @@
+-- Each arm is its family's channels of a pane; the arm of every other family addresses nothing.
 use Prim.Native.Nat.{ℕ}
 use mathlib.Core.List.{List, [], _∷_}
 use mathlib.Core.Path.{_≡_, refl, sym, _∙_}
-use borrow.Author.Tests.{lt-ltb, le-ltb, eq-eqb, ne-eqb}
+use borrow.Author.Tests.{eq-eqb, ne-eqb}
 use denote.Enum.Declared.{tagOf}
 use types.Run.{OneOf, miss}
 use Rattle.laws.specs.declared.Found.the-variants as found
@@ -12,9 +13,6 @@ use Rattle.channel.specs.Channel.{paneChannel}
 use borrow.Author.Needs.{needs}
 use Rattle.channel.proofs.address.pane_channel.Statement.{statement}
 use Rattle.channel.proofs.address.pane_channel.Tie as tie
-use Rattle.channel.proofs.address.pane_channel.Reads as reads
-use Rattle.channel.proofs.address.pane_channel.Lts as lts
-use Rattle.channel.proofs.address.listed.Reads as listed-reads
 
 -- the arm of every other family
 abbrev others : List ℕ
@@ -32,51 +30,40 @@ none AlphaCompare raw h = refl
 none MaterialColor raw h = refl
 none Other raw h = refl
 
--- src/channel.rt:55:38
 enum-told : tie.Need-enum-told
 enum-told c = search needs
 
--- src/channel.rt:55:38
 listed-requires : tie.Need-listed-requires
 listed-requires c κs = search needs
 
--- src/channel.rt:56:31
 enum-told-2 : tie.Need-enum-told-2
 enum-told-2 c = search needs
 
--- src/channel.rt:58:17
 enum-told-3 : tie.Need-enum-told-3
 enum-told-3 c = search needs
 
--- src/channel.rt:58:17
 listed-requires-2 : tie.Need-listed-requires-2
 listed-requires-2 c κs = search needs
 
--- src/channel.rt:59:59
 add-t8 : tie.Need-add-t8
 add-t8 c = search needs
 
--- src/channel.rt:51:1
 returns : tie.Need-returns
 unfolding paneChannel
 returns c = rw (c .before .enum-told .given .1) (rw (c .listed .ensures .0))
 
--- src/channel.rt:51:1
 returns-2 : tie.Need-returns-2
 unfolding paneChannel
 returns-2 c = rw (c .enum-told2 .given .1)
 
--- src/channel.rt:51:1
 returns-3 : tie.Need-returns-3
 unfolding paneChannel
 returns-3 c = rw (c .before .before .enum-told3 .given .1, eq-eqb _ _ (sym (c .before .listed2 .ensures .0) ∙ c .if1 .taken))
 
--- src/channel.rt:51:1
 returns-4 : tie.Need-returns-4
 unfolding paneChannel
 returns-4 c = rw (c .before .before .enum-told3 .given .1, ← c .before .listed2 .ensures .0, ne-eqb _ _ (c .if1 .left))
 
--- src/channel.rt:51:1
 returns-5 : tie.Need-returns-5
 returns-5 c = none _ _ (c .match .keys4)
 

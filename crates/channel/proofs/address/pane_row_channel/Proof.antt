@@ -1,3 +1,4 @@
+-- The row's own code and raw number are asked.
 use borrow.Author.Needs.{needs}
 use Rattle.channel.proofs.address.pane_row_channel.Statement.{statement}
 use Rattle.channel.proofs.address.pane_row_channel.Tie as tie

@@ -1,3 +1,4 @@
+-- A channel of what is reached is numbered over the whole book; where nothing is reached there is none.
 use mathlib.Core.Path.{sym, _∙_}
 use native.Mathlib.Omega.{arith}
 use Rattle.channel.specs.Channel.{address, rowChannel}
@@ -23,7 +24,7 @@ unfolding address rowChannel
 returns c = rw (c .before .before .before .before .r .given .1, sym (c .before .before .pane-row-channel .ensures) ∙ c .enum-told .given .1)
 
 of-pane-requires : tie.Need-of-pane-requires
-of-pane-requires c κs = (omega (arith, (c .before .before .before .before .before .before .before .before .pre .1 .pane _ (c .before .before .before .before .before .r .given .1))), (pane-channel-below _ _ .below _ (sym (c .before .before .before .pane-row-channel .ensures) ∙ c .before .c .given .1)))
+of-pane-requires c κs = let b = c .before .before .before in (omega (arith, (b .before .before .before .before .before .pre .1 .pane _ (b .before .before .r .given .1))), (pane-channel-below _ _ .below _ (sym (b .pane-row-channel .ensures) ∙ c .before .c .given .1)))
 
 enum-known-r-2 : tie.Need-enum-known-r-2
 enum-known-r-2 c = search needs
@@ -42,18 +43,18 @@ unfolding address rowChannel
 returns-2 c = rw (c .before .before .before .before .r2 .given .1, sym (c .before .before .material-row-channel .ensures) ∙ c .enum-told2 .given .1)
 
 of-material-requires : tie.Need-of-material-requires
-of-material-requires c κs = (c .before .before .before .before .before .before .before .before .pre .0, ((c .before .before .before .before .before .before .before .before .pre .1 .material _ (c .before .before .before .before .before .r2 .given .1)), (material-channel-below _ _ _ .below _ (sym (c .before .before .before .material-row-channel .ensures) ∙ c .before .c2 .given .1))))
+of-material-requires c κs = let b = c .before .before .before .before .before in (b .before .before .before .pre .0, ((b .before .before .before .pre .1 .material _ (b .r2 .given .1)), (material-channel-below _ _ _ .below _ (sym (c .before .before .before .material-row-channel .ensures) ∙ c .before .c2 .given .1))))
 
 enum-told-3 : tie.Need-enum-told-3
 enum-told-3 c = search needs
 
 returns-3 : tie.Need-returns-3
 unfolding address rowChannel
-returns-3 c = rw (c .before .before .before .before .before .before .r .given .1, sym (c .before .before .before .before .pane-row-channel .ensures) ∙ c .before .before .c .given .1) (rw (c .of-pane .ensures))
+returns-3 c = let b = c .before .before in rw (b .before .before .before .before .r .given .1, sym (b .before .before .pane-row-channel .ensures) ∙ b .c .given .1) (rw (c .of-pane .ensures))
 
 returns-4 : tie.Need-returns-4
 unfolding address rowChannel
-returns-4 c = rw (c .before .before .before .before .before .before .r2 .given .1, sym (c .before .before .before .before .material-row-channel .ensures) ∙ c .before .before .c2 .given .1) (rw (c .of-material .ensures))
+returns-4 c = let b = c .before .before in rw (b .before .before .before .before .r2 .given .1, sym (b .before .before .material-row-channel .ensures) ∙ b .c2 .given .1) (rw (c .of-material .ensures))
 
 returns-5 : tie.Need-returns-5
 unfolding address rowChannel

@@ -1,4 +1,4 @@
-use mathlib.Core.Path.{sym, _∙_}
+-- The channel's number is compared first, then whether the content reaches the row.
 use Rattle.channel.specs.Place.{hits}
 use borrow.Author.Needs.{needs}
 use Rattle.channel.proofs.place.hits.Statement.{statement}
@@ -18,7 +18,7 @@ reaches-pane-requires c κs = let p = c .before .before .before .before .before 
 
 returns : tie.Need-returns
 unfolding hits
-returns c = rw (c .before .before .before .before .before .place .given .1, ← c .before .before .before .pane-row-channel .ensures, ← c .before .before .is-at .ensures, c .before .if1 .taken) (c .reaches-pane .ensures)
+returns c = let b = c .before .before in rw (b .before .before .before .place .given .1, ← b .before .pane-row-channel .ensures, ← b .is-at .ensures, c .before .if1 .taken) (c .reaches-pane .ensures)
 
 enum-known-place-2 : tie.Need-enum-known-place-2
 enum-known-place-2 c = search needs
@@ -34,7 +34,7 @@ reaches-material-requires c κs = let p = c .before .before .before .before .bef
 
 returns-2 : tie.Need-returns-2
 unfolding hits
-returns-2 c = rw (c .before .before .before .before .before .place2 .given .1, ← c .before .before .before .material-row-channel .ensures, ← c .before .before .is-at2 .ensures, c .before .if2 .taken) (c .reaches-material .ensures)
+returns-2 c = let b = c .before .before in rw (b .before .before .before .place2 .given .1, ← b .before .material-row-channel .ensures, ← b .is-at2 .ensures, c .before .if2 .taken) (c .reaches-material .ensures)
 
 returns-3 : tie.Need-returns-3
 unfolding hits

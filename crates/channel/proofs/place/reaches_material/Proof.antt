@@ -1,60 +1,43 @@
+-- Names are distinct, so the search would find this material exactly where it has the content's name.
 use borrow.Author.Tests.{eq-eqb, ne-eqb}
 use Rattle.channel.specs.Place.{material-reached}
 use borrow.Author.Needs.{needs}
 use Rattle.channel.proofs.place.reaches_material.Statement.{statement}
 use Rattle.channel.proofs.place.reaches_material.Tie as tie
-use Rattle.channel.proofs.place.reaches_material.Reads as reads
-use Rattle.channel.proofs.place.reaches_material.Lts as lts
-use Rattle.book.proofs.materials_at.Reads as materials-at-reads
-use Rattle.field.proofs.same_name.Reads as same-name-reads
-use Rattle.sheet.proofs.content_row.Reads as content-row-reads
-use Rattle.sheet.proofs.contents_at.Reads as contents-at-reads
 
--- src/place.rt:64:9
 content-row-requires : tie.Need-content-row-requires
 content-row-requires c κs = search needs
 
--- src/place.rt:66:9
 returns : tie.Need-returns
 returns c = let p = c .before .before .before .before .before .pre in rw (material-reached _ (p .1 .0) _ _ (p .1 .1 .0) _ (p .1 .1 .1), ← c .before .before .content-row .ensures, ne-eqb _ _ (c .if1 .taken))
 
--- src/place.rt:69:18
 contents-at-requires : tie.Need-contents-at-requires
 contents-at-requires c κs = search needs
 
--- src/place.rt:69:42
 mul-at : tie.Need-mul-at
 mul-at c = search needs
 
--- src/place.rt:69:18
 add-at : tie.Need-add-at
 add-at c = search needs
 
--- src/place.rt:69:18
 add-at-2 : tie.Need-add-at-2
 add-at-2 c = search needs
 
--- src/place.rt:70:36
 materials-at-requires : tie.Need-materials-at-requires
 materials-at-requires c κs = search needs
 
--- src/place.rt:70:60
 mul-same-name : tie.Need-mul-same-name
 mul-same-name c = search needs
 
--- src/place.rt:70:36
 add-same-name : tie.Need-add-same-name
 add-same-name c = search needs
 
--- src/place.rt:70:9
 same-name-requires : tie.Need-same-name-requires
 same-name-requires c κs = search needs
 
--- src/place.rt:70:9
 returns-2 : tie.Need-returns-2
 returns-2 c = let p = c .before .before .before .before .before .before .before .before .before .before .pre in rw (material-reached _ (p .1 .0) _ _ (p .1 .1 .0) _ (p .1 .1 .1), ← c .before .before .before .before .before .before .before .content-row .ensures, eq-eqb _ _ (c .before .before .before .before .before .if1 .left), eq-eqb _ _ (c .before .before .before .if2 .taken), ← c .before .before .contents-at .ensures, ← c .before .materials-at .ensures) (c .same-name .ensures)
 
--- src/place.rt:60:1
 returns-3 : tie.Need-returns-3
 returns-3 c = let p = c .before .before .before .before .before .before .before .pre in rw (material-reached _ (p .1 .0) _ _ (p .1 .1 .0) _ (p .1 .1 .1), ← c .before .before .before .before .content-row .ensures, eq-eqb _ _ (c .before .before .if1 .left), ne-eqb _ _ (c .if2 .left))
 

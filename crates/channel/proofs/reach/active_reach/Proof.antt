@@ -1,27 +1,20 @@
+-- A content of another animation reaches nothing.
 use borrow.Author.Tests.{eq-eqb, ne-eqb, lt-ltb}
 use Rattle.channel.specs.Channel.{activeReach}
 use borrow.Author.Needs.{needs}
 use Rattle.channel.proofs.reach.active_reach.Statement.{statement}
 use Rattle.channel.proofs.reach.active_reach.Tie as tie
-use Rattle.channel.proofs.reach.active_reach.Reads as reads
-use Rattle.channel.proofs.reach.active_reach.Lts as lts
-use Rattle.channel.proofs.reach.content_reach.Reads as content-reach-reads
-use Rattle.sheet.proofs.content_row.Reads as content-row-reads
 
--- src/reach.rt:57:8
 content-row-requires : tie.Need-content-row-requires
 content-row-requires c κs = search needs
 
--- src/reach.rt:58:9
 content-reach-requires : tie.Need-content-reach-requires
 content-reach-requires c κs = search needs
 
--- src/reach.rt:58:9
 returns : tie.Need-returns
 unfolding activeReach
 returns c = rw (lt-ltb _ _ (c .before .before .before .before .before .before .pre .1 .1), ← c .before .before .before .content-row .ensures, eq-eqb _ _ (c .before .if1 .taken)) (c .content-reach .ensures)
 
--- src/reach.rt:53:1
 returns-2 : tie.Need-returns-2
 unfolding activeReach
 returns-2 c = rw (lt-ltb _ _ (c .before .before .before .before .before .pre .1 .1), ← c .before .before .content-row .ensures, ne-eqb _ _ (c .if1 .left))

@@ -1,3 +1,4 @@
+-- Three lengths are held to the sheet's K.
 use native.Mathlib.Omega.{arith}
 use Rattle.keys.specs.Load.{arraysOk}
 use Rattle.keys.proofs.load.arrays_ok.Statement.{statement}

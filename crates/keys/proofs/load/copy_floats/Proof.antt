@@ -1,3 +1,4 @@
+-- After i turns the first i places hold the sheet's floats, and the rest is as it was lent.
 use native.Mathlib.Omega.{arith}
 use Prim.Native.Nat.{_+_, _-_, _*_}
 use Rattle.laws.specs.Table.{Filled, filled-none, filled-more, filled-all}

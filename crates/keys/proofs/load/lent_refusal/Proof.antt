@@ -1,3 +1,4 @@
+-- Each return is at its row of the table.
 use Rattle.laws.specs.Rows.{row-laws}
 use Rattle.keys.specs.Load.{lengthsOk}
 use borrow.Author.Needs.{needs}

@@ -1,8 +1,9 @@
+-- A declined load leaves the arrays as they were lent; else each holds its floats of the sheet.
 use native.Mathlib.Omega.{arith}
-use mathlib.Core.Path.{_≡_, sym, _∙_}
+use mathlib.Core.Path.{sym, _∙_}
 use lib.ListN.{length}
 use denote.Ref.{now}
-use Rattle.keys.specs.Stored.{Stored, frame-floats, value-floats, slope-floats}
+use Rattle.keys.specs.Stored.{frame-floats, value-floats, slope-floats}
 use Rattle.keys.specs.Loading.{Loadable, loadable, load-declined, load-done}
 use borrow.Author.Needs.{needs}
 use Rattle.keys.proofs.load.load_keys.Statement.{statement}

@@ -1,3 +1,4 @@
+-- Each return is at its row of the table.
 use Rattle.laws.specs.Rows.{row-laws}
 use Rattle.laws.specs.Tests.{yes}
 use Rattle.sheet.specs.Checked.{checked}

@@ -1,8 +1,12 @@
+-- Each return is the rule of its curve, over all of the curve's keys.
 use borrow.Author.Tests.{eq-eqb, ne-eqb}
 use Rattle.keys.specs.Rules.{curveOk}
 use borrow.Author.Needs.{needs}
 use Rattle.keys.proofs.rules.curve_ok.Statement.{statement}
 use Rattle.keys.proofs.rules.curve_ok.Tie as tie
+
+cast-if1 : tie.Need-cast-if1
+cast-if1 c = search needs
 
 constant-keys-requires : tie.Need-constant-keys-requires
 constant-keys-requires c κs = search needs
@@ -10,6 +14,9 @@ constant-keys-requires c κs = search needs
 returns : tie.Need-returns
 unfolding curveOk
 returns c = rw (eq-eqb _ _ (c .before .if1 .taken)) (c .constant-keys .ensures)
+
+cast-if2 : tie.Need-cast-if2
+cast-if2 c = search needs
 
 step-keys-requires : tie.Need-step-keys-requires
 step-keys-requires c κs = search needs
@@ -32,8 +39,10 @@ pub curve-ok-spec : {M : Type 1} → statement M
 curve-ok-spec =
     tie.close
     (tie.spec
+    cast-if1
     constant-keys-requires
     returns
+    cast-if2
     step-keys-requires
     rising-keys-requires
     returns-2

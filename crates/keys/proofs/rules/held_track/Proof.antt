@@ -1,3 +1,4 @@
+-- A track whose keys are not all among the K is refused before its keys are read.
 use native.Mathlib.Omega.{arith}
 use Rattle.sheet.specs.Rows.{targetRow}
 use Rattle.keys.specs.Keys.{held-not, held-by}

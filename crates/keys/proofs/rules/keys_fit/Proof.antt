@@ -1,3 +1,4 @@
+-- The lengths are compared once the sizes can be read.
 use borrow.Author.Tests.{le-leb, lt-leb}
 use Rattle.keys.specs.Keys.{keysFit}
 use borrow.Author.Needs.{needs}

@@ -1,3 +1,4 @@
+-- What fits has its keys tested: all finite, and track by track.
 use native.Mathlib.Omega.{arith}
 use mathlib.Core.Path.{_≡_}
 use mathlib.Core.Bool.{true}

@@ -1,3 +1,4 @@
+-- After i turns the answer is whether the first i frames never fall; the first is held against itself.
 use native.Mathlib.Omega.{arith}
 use Prim.Native.Nat.{_+_, _-_, _≤_}
 use mathlib.Core.Path.{_≡_, sym}

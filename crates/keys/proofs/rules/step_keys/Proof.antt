@@ -1,3 +1,4 @@
+-- After i turns the answer is whether the first i keys have slope +0 and a whole value in range.
 use native.Mathlib.Omega.{arith}
 use Prim.Native.Nat.{_-_}
 use Rattle.laws.specs.Joined.{Joined, joined-none, joined-more, joined-all}

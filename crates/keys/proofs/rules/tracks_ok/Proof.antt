@@ -1,6 +1,6 @@
+-- Every track passed keeps its rules; the first that doesn't ends the loop.
 use native.Mathlib.Omega.{arith}
 use Prim.Native.Nat.{_-_}
-use mathlib.Core.Path.{_≡_}
 use Rattle.laws.specs.Below.{Passed, passed-none, passed-more, passed-not, passed-all}
 use Rattle.sheet.specs.Sizes.{targetCount}
 use Rattle.keys.specs.Keys.{heldTrack}

@@ -1,3 +1,4 @@
+-- Every stored key passed keeps its curve's rule with the frame before it; one that doesn't ends the loop.
 use native.Mathlib.Omega.{arith}
 use Prim.Native.Nat.{_+_, _-_}
 use mathlib.Core.Path.{_≡_, sym, _∙_}
@@ -24,14 +25,14 @@ add-k c = omega arith
 frame-at-requires : tie.Need-frame-at-requires Inv-loop μ-loop
 frame-at-requires c κs = (c .before .before .before .pre .0, omega arith)
 
-frame-at-requires-2 : tie.Need-frame-at-requires-2 Inv-loop μ-loop
-frame-at-requires-2 c κs = (c .before .before .before .before .pre .0, omega arith)
-
 value-at-requires : tie.Need-value-at-requires Inv-loop μ-loop
-value-at-requires c κs = (c .before .before .before .before .before .pre .0, omega arith)
+value-at-requires c κs = (c .before .before .before .before .pre .0, omega arith)
 
 slope-at-requires : tie.Need-slope-at-requires Inv-loop μ-loop
-slope-at-requires c κs = (c .before .before .before .before .before .before .pre .0, omega arith)
+slope-at-requires c κs = (c .before .before .before .before .before .pre .0, omega arith)
+
+frame-at-requires-2 : tie.Need-frame-at-requires-2 Inv-loop μ-loop
+frame-at-requires-2 c κs = (c .before .before .before .before .before .before .pre .0, omega arith)
 
 key-rule-requires : tie.Need-key-rule-requires Inv-loop μ-loop
 key-rule-requires c κs = omega arith
@@ -69,9 +70,9 @@ curve-stored-spec =
     loop-holds
     add-k
     frame-at-requires
-    frame-at-requires-2
     value-at-requires
     slope-at-requires
+    frame-at-requires-2
     key-rule-requires
     returns
     add-i

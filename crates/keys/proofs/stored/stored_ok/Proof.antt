@@ -1,8 +1,6 @@
-use mathlib.Core.Path.{_≡_, sym, _∙_}
-use mathlib.Core.Bool.{Bool}
+-- The stored lists are keys of their own sheet exactly when they are finite and every track keeps its rules.
+use mathlib.Core.Path.{_≡_}
 use denote.Ref.{now}
-use mathlib.Core.List.{List}
-use Prim.Native.Nat.{ℕ}
 use Rattle.laws.specs.Tests.{no, yes}
 use Rattle.keys.specs.Rules.{keyRules}
 use Rattle.keys.specs.Keys.{keysOk, keys-are}

@@ -1,3 +1,4 @@
+-- `edit` gives `editOf`, refusal, player and all three key arrays: the edit of either kind: the key is made and put in its place, and its entry goes into the journal.
 use Rattle.menu.proofs.Edits.{refused-is, allowed, made-is}
 use borrow.Author.Needs.{needs}
 use Rattle.menu.proofs.editing.edit.Statement.{statement}
@@ -22,16 +23,31 @@ spot-of-requires : tie.Need-spot-of-requires
 spot-of-requires c κs = let w = allowed _ _ _ _ _ _ _ _ _ (c .before .edit-refusal .ensures) (c .if1 .left) in (w .sheet, w .on)
 
 key-at-requires : tie.Need-key-at-requires
-key-at-requires c κs = let w = allowed _ _ _ _ _ _ _ _ _ (c .before .before .before .before .before .edit-refusal .ensures) (c .before .before .before .before .if1 .left) in rw (c .before .before .before .spot-of .ensures) (w .inside .frames .here, w .inside .values, w .inside .slopes)
+key-at-requires c κs =
+    let at-spot-of = c .before .before .before in
+    let at-if1 = at-spot-of .before in
+    let at-edit-refusal = at-if1 .before in
+    let w = allowed _ _ _ _ _ _ _ _ _ (at-edit-refusal .edit-refusal .ensures) (at-if1 .if1 .left) in rw (at-spot-of .spot-of .ensures) (w .inside .frames .here, w .inside .values, w .inside .slopes)
 
 edited-requires : tie.Need-edited-requires
-edited-requires c κs = let w = allowed _ _ _ _ _ _ _ _ _ (c .before .before .before .before .before .before .before .before .before .edit-refusal .ensures) (c .before .before .before .before .before .before .before .before .if1 .left) in rw (c .before .before .before .before .before .before .before .spot-of .ensures) (w .inside)
+edited-requires c κs =
+    let at-spot-of = c .before .before .before .before .before .before .before in
+    let at-if1 = at-spot-of .before in
+    let at-edit-refusal = at-if1 .before in
+    let w = allowed _ _ _ _ _ _ _ _ _ (at-edit-refusal .edit-refusal .ensures) (at-if1 .if1 .left) in rw (at-spot-of .spot-of .ensures) (w .inside)
 
 put-key-requires : tie.Need-put-key-requires
-put-key-requires c κs = let w = allowed _ _ _ _ _ _ _ _ _ (c .before .before .before .before .before .before .before .before .before .before .before .before .before .edit-refusal .ensures) (c .before .before .before .before .before .before .before .before .before .before .before .before .if1 .left) in rw (c .before .before .before .before .before .before .before .before .before .before .before .spot-of .ensures) (record { frames = w .inside .frames .here; values = w .inside .values; slopes = w .inside .slopes })
+put-key-requires c κs =
+    let at-spot-of = c .before .before .before .before .before .before .before .before .before .before .before in
+    let at-if1 = at-spot-of .before in
+    let at-edit-refusal = at-if1 .before in
+    let w = allowed _ _ _ _ _ _ _ _ _ (at-edit-refusal .edit-refusal .ensures) (at-if1 .if1 .left) in rw (at-spot-of .spot-of .ensures) (record { frames = w .inside .frames .here; values = w .inside .values; slopes = w .inside .slopes })
 
 after-edit-requires : tie.Need-after-edit-requires
-after-edit-requires c κs = (allowed _ _ _ _ _ _ _ _ _ (c .before .before .before .before .before .before .before .before .before .before .before .before .before .before .before .before .before .before .before .before .edit-refusal .ensures) (c .before .before .before .before .before .before .before .before .before .before .before .before .before .before .before .before .before .before .before .if1 .left)) .counts
+after-edit-requires c κs =
+    let at-if1 = c .before .before .before .before .before .before .before .before .before .before .before .before .before .before .before .before .before .before .before in
+    let at-edit-refusal = at-if1 .before in
+    (allowed _ _ _ _ _ _ _ _ _ (at-edit-refusal .edit-refusal .ensures) (at-if1 .if1 .left)) .counts
 
 same-length-4 : tie.Need-same-length-4
 same-length-4 c = search needs
@@ -43,7 +59,14 @@ same-length-6 : tie.Need-same-length-6
 same-length-6 c = search needs
 
 returns-2 : tie.Need-returns-2
-returns-2 c = made-is _ _ _ _ _ _ _ _ _ (c .before .before .before .before .before .before .before .before .before .before .before .before .before .before .before .before .before .before .before .before .before .edit-refusal .ensures) _ _ _ _ _ _ _ (c .before .before .before .before .before .before .before .before .before .before .before .before .before .before .before .before .before .before .before .before .if1 .left) (c .before .before .before .before .before .before .before .before .before .before .before .before .before .before .before .before .before .before .before .spot-of .ensures) (c .before .before .before .before .before .before .before .before .before .before .before .before .before .before .before .key-at .ensures) (c .before .before .before .before .before .before .before .before .before .before .before .edited .ensures) (c .after-edit .ensures) (c .before .before .before .before .before .before .before .put-key .ensures .0) (c .before .before .before .before .before .before .before .put-key .ensures .1 .0) (c .before .before .before .before .before .before .before .put-key .ensures .1 .1)
+returns-2 c =
+    let at-put-key = c .before .before .before .before .before .before .before in
+    let at-edited = at-put-key .before .before .before .before in
+    let at-key-at = at-edited .before .before .before .before in
+    let at-spot-of = at-key-at .before .before .before .before in
+    let at-if1 = at-spot-of .before in
+    let at-edit-refusal = at-if1 .before in
+    made-is _ _ _ _ _ _ _ _ _ (at-edit-refusal .edit-refusal .ensures) _ _ _ _ _ _ _ (at-if1 .if1 .left) (at-spot-of .spot-of .ensures) (at-key-at .key-at .ensures) (at-edited .edited .ensures) (c .after-edit .ensures) (at-put-key .put-key .ensures .0) (at-put-key .put-key .ensures .1 .0) (at-put-key .put-key .ensures .1 .1)
 
 pub edit-spec : {M : Type 1} → statement M
 edit-spec =

@@ -1,7 +1,8 @@
+-- `edit_refusal` answers the first row of `editTable` that does not hold.
 use Rattle.menu.specs.Rows.{editTable}
-use Rattle.player.specs.Edit.{editRows}
+use Rattle.edit.specs.Edit.{editRows}
 use Rattle.laws.specs.Tests.{yes}
-use Rattle.menu.proofs.Checks.{state-ready, after-state}
+use Rattle.menu_checks.specs.Checks.{state-ready, after-state}
 use Rattle.menu.proofs.Edits.{has-track, in-has, inside-frames, is-none, not-none, request-at}
 use borrow.Author.Needs.{needs}
 use Rattle.menu.proofs.editing.edit_refusal.Statement.{statement}

@@ -1,4 +1,5 @@
-use Rattle.menu.proofs.Answers.{load-is}
+-- `load` gives `loadedOf`, refusal, player and all three key arrays: the keys of a sheet into three lent arrays, with a fresh player.
+use Rattle.menu.proofs.Loads.{load-is}
 use borrow.Author.Needs.{needs}
 use Rattle.menu.proofs.loading.load.Statement.{statement}
 use Rattle.menu.proofs.loading.load.Tie as tie

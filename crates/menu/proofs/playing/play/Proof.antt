@@ -1,3 +1,4 @@
+-- `play` answers `playOf`: Plays an animation from its start.
 use Rattle.menu.proofs.Results.{played-not, played}
 use Rattle.menu.specs.Calls.{playOf}
 use borrow.Author.Needs.{needs}

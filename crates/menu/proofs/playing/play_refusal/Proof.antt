@@ -1,7 +1,8 @@
+-- `play_refusal` answers the first row of `playTable` that does not hold.
 use native.Mathlib.Omega.{arith}
 use Rattle.menu.specs.Rows.{playTable, playRows}
-use Rattle.menu.proofs.Checks.{player-ready, after-player}
-use Rattle.menu.proofs.Answers.{play-no, play-yes}
+use Rattle.menu_checks.specs.Checks.{player-ready, after-player}
+use Rattle.menu.proofs.Loads.{play-no, play-yes}
 use borrow.Author.Needs.{needs}
 use Rattle.menu.proofs.playing.play_refusal.Statement.{statement}
 use Rattle.menu.proofs.playing.play_refusal.Tie as tie

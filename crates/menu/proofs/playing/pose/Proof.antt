@@ -1,6 +1,7 @@
+-- `pose` answers `poseOf`: holds an animation at a frame; none, and a number that the sheet doesn't have, clear the selection.
 use Rattle.menu.specs.Rows.{poseTable}
 use Rattle.menu.proofs.Results.{played-not, played}
-use Rattle.menu.proofs.Checks.{player-ready}
+use Rattle.menu_checks.specs.Checks.{player-ready}
 use Rattle.menu.specs.Calls.{poseOf}
 use borrow.Author.Needs.{needs}
 use Rattle.menu.proofs.playing.pose.Statement.{statement}

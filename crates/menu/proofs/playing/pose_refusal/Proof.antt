@@ -1,5 +1,6 @@
+-- `pose_refusal` answers the first row of `poseTable` that does not hold.
 use Rattle.menu.specs.Rows.{poseTable, poseRows}
-use Rattle.menu.proofs.Checks.{after-player}
+use Rattle.menu_checks.specs.Checks.{after-player}
 use borrow.Author.Needs.{needs}
 use Rattle.menu.proofs.playing.pose_refusal.Statement.{statement}
 use Rattle.menu.proofs.playing.pose_refusal.Tie as tie

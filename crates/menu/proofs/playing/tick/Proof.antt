@@ -1,6 +1,7 @@
+-- `tick` answers `tickOf`: lets dt seconds pass at fps frames a second.
 use Rattle.menu.specs.Rows.{tickTable}
 use Rattle.menu.proofs.Results.{ticked-not, ticked}
-use Rattle.menu.proofs.Checks.{player-ready, selected}
+use Rattle.menu_checks.specs.Checks.{player-ready, selected}
 use Rattle.menu.specs.Calls.{tickOf}
 use borrow.Author.Needs.{needs}
 use Rattle.menu.proofs.playing.tick.Statement.{statement}

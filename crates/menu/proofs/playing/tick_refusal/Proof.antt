@@ -1,5 +1,6 @@
+-- `tick_refusal` answers the first row of `tickTable` that does not hold.
 use Rattle.menu.specs.Rows.{tickTable, tickRows}
-use Rattle.menu.proofs.Checks.{player-ready, selected, after-player}
+use Rattle.menu_checks.specs.Checks.{player-ready, selected, after-player}
 use borrow.Author.Needs.{needs}
 use Rattle.menu.proofs.playing.tick_refusal.Statement.{statement}
 use Rattle.menu.proofs.playing.tick_refusal.Tie as tie

@@ -1,3 +1,4 @@
+-- `menu_next_name` gives `nextNameInto`, its outputs included: the name that follows an animation, into 24 bytes: all zero where it has none.
 use mathlib.Core.Path.{sym, _∙_, ap}
 use lib.ListN.{length}
 use Rattle.menu_c.specs.Long.{next-long}
@@ -19,14 +20,22 @@ next-name-requires : tie.Need-next-name-requires
 next-name-requires c κs = search needs
 
 hand-out-requires : tie.Need-hand-out-requires
-hand-out-requires c κs = ap length (c .before .next-name .ensures) ∙ next-long _ _ (sym (c .before .before .before .next-refusal .ensures) ∙ c .before .before .if1 .left)
+hand-out-requires c κs =
+    let at-if1 = c .before .before in
+    let at-next-refusal = at-if1 .before in
+    ap length (c .before .next-name .ensures) ∙ next-long _ _ (sym (at-next-refusal .next-refusal .ensures) ∙ at-if1 .if1 .left)
 
 same-length : tie.Need-same-length
 same-length c = search needs
 
 returns-2 : tie.Need-returns-2
 unfolding nextNameInto nextNameOutTable nextNameTable
-returns-2 c = into-given _ _ _ (c .before .before .before .before .before .before .next-refusal .ensures) tt (c .before .before .before .before .before .if1 .left) (c .before .before .before .before .next-name .ensures) (c .before .before .hand-out .ensures)
+returns-2 c =
+    let at-hand-out = c .before .before in
+    let at-next-name = at-hand-out .before .before in
+    let at-if1 = at-next-name .before in
+    let at-next-refusal = at-if1 .before in
+    into-given _ _ _ (at-next-refusal .next-refusal .ensures) tt (at-if1 .if1 .left) (at-next-name .next-name .ensures) (at-hand-out .hand-out .ensures)
 
 pub menu-next-name-spec : {M : Type 1} → statement M
 menu-next-name-spec =

@@ -1,3 +1,4 @@
+-- `next_refusal` answers the first row of `nextNameTable` that does not hold.
 use native.Mathlib.Omega.{arith}
 use borrow.Author.Tests.{lt-ltb, le-ltb}
 use Rattle.laws.specs.Tests.{no, yes}
@@ -20,11 +21,17 @@ animation-count-requires c κs = let w = checked _ (yes (c .before .sheet-ok .en
 
 returns-2 : tie.Need-returns-2
 unfolding nextNameTable
-returns-2 c = passes 1 _ (yes (c .before .before .before .sheet-ok .ensures) (c .before .before .if1 .left)) (passes 6 _ (rw (← c .before .animation-count .ensures) (lt-ltb _ _ (c .if2 .taken))) no-rows)
+returns-2 c =
+    let at-if1 = c .before .before in
+    let at-sheet-ok = at-if1 .before in
+    passes 1 _ (yes (at-sheet-ok .sheet-ok .ensures) (at-if1 .if1 .left)) (passes 6 _ (rw (← c .before .animation-count .ensures) (lt-ltb _ _ (c .if2 .taken))) no-rows)
 
 returns-3 : tie.Need-returns-3
 unfolding nextNameTable
-returns-3 c = passes 1 _ (yes (c .before .before .before .sheet-ok .ensures) (c .before .before .if1 .left)) (fails 6 _ (rw (← c .before .animation-count .ensures) (le-ltb _ _ (c .if2 .left))))
+returns-3 c =
+    let at-if1 = c .before .before in
+    let at-sheet-ok = at-if1 .before in
+    passes 1 _ (yes (at-sheet-ok .sheet-ok .ensures) (at-if1 .if1 .left)) (fails 6 _ (rw (← c .before .animation-count .ensures) (le-ltb _ _ (c .if2 .left))))
 
 pub next-refusal-spec : {M : Type 1} → statement M
 next-refusal-spec =

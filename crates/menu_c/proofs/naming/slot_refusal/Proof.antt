@@ -1,6 +1,7 @@
+-- `slot_refusal` answers the first row of `textureNameTable` that does not hold: the refusal of reading a material's texture slot.
 use mathlib.Core.Path.{ap, _∙_}
-use Rattle.menu.specs.Slots.{slot-number}
-use Rattle.menu.specs.declared.readings.ReadOne.{ReadOne}
+use Rattle.menu_readings.specs.Slots.{slot-number}
+use Rattle.menu_readings.specs.declared.single.ReadOne.{ReadOne}
 use borrow.Author.Needs.{needs}
 use Rattle.menu_c.proofs.naming.slot_refusal.Statement.{statement}
 use Rattle.menu_c.proofs.naming.slot_refusal.Tie as tie

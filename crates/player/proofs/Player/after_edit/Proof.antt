@@ -1,4 +1,5 @@
-use Rattle.player.specs.Undo.{editedPlayer}
+-- `after_edit` answers `editedPlayer`: row standing % 128 takes the entry.
+use Rattle.player.specs.Edited.{editedPlayer}
 use borrow.Author.Needs.{needs}
 use Rattle.player.proofs.Player.after_edit.Statement.{statement}
 use Rattle.player.proofs.Player.after_edit.Tie as tie

@@ -1,3 +1,4 @@
+-- `after_redo` answers `redonePlayer`: Redo: reach + 1, redone + 1.
 use mathlib.Core.Path.{refl}
 use Rattle.player.specs.Undo.{redonePlayer}
 use borrow.Author.Needs.{needs}

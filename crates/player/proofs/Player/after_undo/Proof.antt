@@ -1,3 +1,4 @@
+-- `after_undo` answers `undonePlayer`: Undo: reach − 1, undone + 1; one edit less stands, and one more can be made again.
 use mathlib.Core.Path.{refl}
 use Rattle.player.specs.Undo.{undonePlayer}
 use borrow.Author.Needs.{needs}

@@ -1,3 +1,4 @@
+-- `fresh` answers `emptyJournal`: a journal of no edits.
 use Rattle.player.specs.Player.{freshPlayer}
 use borrow.Author.Needs.{needs}
 use Rattle.player.proofs.Player.fresh.Statement.{statement}

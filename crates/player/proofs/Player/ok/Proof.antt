@@ -1,3 +1,4 @@
+-- `ok` answers `playerOk`: row 5, as far as it looks at the player alone.
 use native.Mathlib.Omega.{arith}
 use Rattle.laws.specs.Tests.{no, yes}
 use Rattle.player.specs.Sound.{counts}
@@ -31,10 +32,21 @@ add-n : tie.Need-add-n
 add-n c = let k = counts _ _ _ _ _ _ (yes (c .before .before .before .counts-ok .ensures) (c .before .before .if3 .left)) in omega arith
 
 rows-ok-requires : tie.Need-rows-ok-requires
-rows-ok-requires c κs = let k = counts _ _ _ _ _ _ (yes (c .before .before .before .counts-ok .ensures) (c .before .before .if3 .left)) in (c .before .before .before .before .before .before .before .before .before .pre, omega arith)
+rows-ok-requires c κs =
+    let at-if3 = c .before .before in
+    let at-counts-ok = at-if3 .before in
+    let at-pre = at-counts-ok .before .before .before .before .before .before in
+    let k = counts _ _ _ _ _ _ (yes (at-counts-ok .counts-ok .ensures) (at-if3 .if3 .left)) in (at-pre .pre, omega arith)
 
 returns-4 : tie.Need-returns-4
-returns-4 c = rows-left _ _ (yes (c .before .before .before .before .before .before .before .before .selection-ok .ensures) (c .before .before .before .before .before .before .before .if1 .left)) (yes (c .before .before .before .before .before .before .is-finite .ensures) (c .before .before .before .before .before .if2 .left)) (yes (c .before .before .before .before .counts-ok .ensures) (c .before .before .before .if3 .left)) (c .rows-ok .ensures)
+returns-4 c =
+    let at-if3 = c .before .before .before in
+    let at-counts-ok = at-if3 .before in
+    let at-if2 = at-counts-ok .before in
+    let at-is-finite = at-if2 .before in
+    let at-if1 = at-is-finite .before in
+    let at-selection-ok = at-if1 .before in
+    rows-left _ _ (yes (at-selection-ok .selection-ok .ensures) (at-if1 .if1 .left)) (yes (at-is-finite .is-finite .ensures) (at-if2 .if2 .left)) (yes (at-counts-ok .counts-ok .ensures) (at-if3 .if3 .left)) (c .rows-ok .ensures)
 
 pub ok-spec : {M : Type 1} → statement M
 ok-spec =

@@ -1,3 +1,4 @@
+-- `play` answers `withView`: the animation from its start; play of none does nothing.
 use borrow.Author.Tests.{eq-eqb, ne-eqb, lt-ltb, le-ltb}
 use Rattle.player.specs.View.{playView}
 use Rattle.player.proofs.Player.play.Statement.{statement}

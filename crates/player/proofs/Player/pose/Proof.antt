@@ -1,3 +1,4 @@
+-- `pose` answers `withView`: the animation held at a frame; from A up, and none, clear the selection.
 use borrow.Author.Tests.{eq-eqb, ne-eqb, lt-ltb, le-ltb}
 use Rattle.player.specs.View.{poseView}
 use borrow.Author.Needs.{needs}

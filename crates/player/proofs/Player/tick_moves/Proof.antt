@@ -1,3 +1,4 @@
+-- `tick_moves` answers `tickMoves`: row 8 of a playing tick: the sum, and the frame that it would leave, are finite.
 use Rattle.laws.specs.Tests.{no, yes}
 use Rattle.player.specs.Ticked.{tick-animation, moves-is, idle-moves}
 use borrow.Author.Needs.{needs}

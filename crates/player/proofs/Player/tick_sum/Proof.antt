@@ -1,3 +1,4 @@
+-- `tick_sum` answers `tickSum`: frame + dt · fps.
 use mathlib.Core.Path.{refl}
 use Rattle.player.specs.View.{tickSum}
 use Rattle.player.proofs.Player.tick_sum.Statement.{statement}

@@ -1,3 +1,4 @@
+-- `ticks` answers `ticks`: A playing tick: something is selected, and plays.
 use mathlib.Core.Path.{refl}
 use Rattle.player.specs.View.{ticks}
 use Rattle.player.proofs.Player.ticks.Statement.{statement}

@@ -1,3 +1,4 @@
+-- `end_of` answers `endOf`: how an animation ends: with a next name or without.
 use Rattle.player.specs.View.{endOf}
 use borrow.Author.Needs.{needs}
 use Rattle.player.proofs.playing.end_of.Statement.{statement}

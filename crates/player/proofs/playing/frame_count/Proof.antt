@@ -1,3 +1,4 @@
+-- `frame_count` answers `countOf`: an animation's frame count.
 use Rattle.player.specs.View.{countOf}
 use borrow.Author.Needs.{needs}
 use Rattle.player.proofs.playing.frame_count.Statement.{statement}

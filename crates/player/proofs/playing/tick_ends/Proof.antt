@@ -1,3 +1,4 @@
+-- `tick_ends` answers `tickEnds`: whether a playing tick ends the animation.
 use Rattle.player.specs.View.{tickEnds}
 use borrow.Author.Needs.{needs}
 use Rattle.player.proofs.playing.tick_ends.Statement.{statement}

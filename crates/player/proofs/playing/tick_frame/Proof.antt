@@ -1,3 +1,4 @@
+-- `tick_frame` answers `tickFrame`: where a playing tick leaves the frame.
 use Rattle.player.specs.View.{tickFrame}
 use borrow.Author.Needs.{needs}
 use Rattle.player.proofs.playing.tick_frame.Statement.{statement}

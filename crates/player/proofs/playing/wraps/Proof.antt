@@ -1,3 +1,4 @@
+-- `wraps` answers `wraps`: at the frame count or past it, a looping animation of at least a frame goes on from the remainder, and any other ends at its frame count.
 use Rattle.player.specs.View.{wraps}
 use borrow.Author.Needs.{needs}
 use Rattle.player.proofs.playing.wraps.Statement.{statement}

@@ -1,3 +1,4 @@
+-- `counts_ok` answers `countsOk`: each number is held to its bound before two are added.
 use native.Mathlib.Omega.{arith}
 use Rattle.player.proofs.Counts.{no-room, no-accepted, no-undone, no-redone, no-standing, counts-rest}
 use borrow.Author.Needs.{needs}

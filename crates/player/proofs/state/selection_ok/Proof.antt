@@ -1,3 +1,4 @@
+-- `selection_ok` answers `selectionOk`: a selection: nothing, or one of the animations.
 use Rattle.player.specs.Player.{selectionOk}
 use borrow.Author.Needs.{needs}
 use Rattle.player.proofs.state.selection_ok.Statement.{statement}

@@ -1,3 +1,4 @@
+-- `can_read_all` keeps to the bounds that it promises: nor does row 13.
 use Rattle.probe.specs.Readable.{no-claim}
 use Rattle.laws.specs.Tests.{both}
 use borrow.Author.Tests.{not-false, eqb-true}

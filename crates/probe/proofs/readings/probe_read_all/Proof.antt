@@ -1,3 +1,4 @@
+-- `probe_read_all` stays inside its slices. Whether it could be read.
 use borrow.Author.Needs.{needs}
 use Rattle.probe.proofs.readings.probe_read_all.Statement.{statement}
 use Rattle.probe.proofs.readings.probe_read_all.Tie as tie
@@ -9,7 +10,10 @@ active-requires : tie.Need-active-requires
 active-requires c κs = search needs
 
 read-all-requires : tie.Need-read-all-requires
-read-all-requires c κs = let k = c .before .before .before .before .can-read-all .ensures (c .before .before .before .if1 .taken) in (k .checked, (k .marked, k .numbered))
+read-all-requires c κs =
+    let at-if1 = c .before .before .before in
+    let at-can-read-all = at-if1 .before in
+    let k = at-can-read-all .can-read-all .ensures (at-if1 .if1 .taken) in (k .checked, (k .marked, k .numbered))
 
 same-length : tie.Need-same-length
 same-length c = search needs

@@ -1,3 +1,4 @@
+-- `probe_read_frames` stays inside its slices. The checks once and then `times` whole readings at frames that lie a step apart, as for a table of frames.
 use Prim.Native.Nat.{_-_}
 use mathlib.Core.Path.{_≡_, sym, _∙_}
 use borrow.Author.Needs.{needs}
@@ -22,7 +23,11 @@ loop-holds : tie.Need-loop-holds Inv-loop μ-loop
 loop-holds c = search needs
 
 read-all-requires : tie.Need-read-all-requires Inv-loop μ-loop
-read-all-requires c κs = let h = c .before .before .before .loop .inv in let k = c .before .before .before .before .before .can-read-all .ensures (not-false _ (c .before .before .before .before .if1 .left)) in (k .checked, (h .0 ∙ k .marked, h .1 ∙ k .numbered))
+read-all-requires c κs =
+    let at-loop = c .before .before .before in
+    let at-if1 = at-loop .before in
+    let at-can-read-all = at-if1 .before in
+    let h = at-loop .loop .inv in let k = at-can-read-all .can-read-all .ensures (not-false _ (at-if1 .if1 .left)) in (k .checked, (h .0 ∙ k .marked, h .1 ∙ k .numbered))
 
 add-k : tie.Need-add-k Inv-loop μ-loop
 add-k c = search needs

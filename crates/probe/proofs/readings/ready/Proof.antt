@@ -1,3 +1,4 @@
+-- `ready` keeps to the bounds that it promises: rows 1, 2 and 4 of the table decline nothing.
 use Rattle.reading.specs.Ready.{ready}
 use Rattle.laws.specs.Tests.{both}
 use mathlib.Core.Path.{sym, _∙_}

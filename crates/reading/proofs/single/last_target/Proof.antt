@@ -1,3 +1,4 @@
+-- No target from i on addresses the channel, so the first that is met from the end is the last.
 use Prim.Native.Nat.{ℕ}
 use mathlib.Core.Bool.{Bool}
 use mathlib.Core.List.{List}
@@ -15,13 +16,6 @@ use Rattle.reading.specs.Reading.{lastTarget}
 use Rattle.reading.proofs.Pass.{row-is, row-content}
 use Rattle.reading.proofs.single.last_target.Statement.{statement}
 use Rattle.reading.proofs.single.last_target.Tie as tie
-use Rattle.reading.proofs.single.last_target.Reads as reads
-use Rattle.reading.proofs.single.last_target.Lts as lts
-use Rattle.channel.proofs.hits.Reads as hits-reads
-use Rattle.channel.proofs.place_of.Reads as place-of-reads
-use Rattle.sheet.proofs.target_at.Reads as target-at-reads
-use Rattle.sheet.proofs.target_count.Reads as target-count-reads
-use Rattle.sheet.proofs.targets_at.Reads as targets-at-reads
 
 -- what the test of target t tells, by the place of c and the target's row
 hit : (s b : List ℕ) (a t c : ℕ) {l : Place} {row : Target} {r x : Bool} → l ≡ placeOf b c → row ≡ targetRow s t → r ≡ hits s b a l row → r ≡ x → isAt (targetChannel s b a t) c ≡ x
@@ -33,56 +27,43 @@ Inv-loop s b a c place base i₀ i = Behind (targetCount s) (λ t. isAt (targetC
 abbrev μ-loop : tie.MeasureT-loop
 μ-loop s b a c place base i₀ i = i
 
--- src/single.rt:20:9
 place-of-requires : tie.Need-place-of-requires Inv-loop μ-loop
 place-of-requires c κs = c .before .before .pre .1 .0
 
--- src/single.rt:21:9
 targets-at-requires : tie.Need-targets-at-requires Inv-loop μ-loop
 targets-at-requires c κs = omega arith
 
--- src/single.rt:22:9
 target-count-requires : tie.Need-target-count-requires Inv-loop μ-loop
 target-count-requires c κs = omega arith
 
--- src/single.rt:23:5
 loop-holds : tie.Need-loop-holds Inv-loop μ-loop
 loop-holds c = rw (c .target-count .ensures) (behind-none _ _)
 
--- src/single.rt:24:17
 sub-t : tie.Need-sub-t Inv-loop μ-loop
 sub-t c = omega arith
 
--- src/single.rt:25:60
 mul-target-at : tie.Need-mul-target-at Inv-loop μ-loop
 mul-target-at c = omega arith
 
--- src/single.rt:25:53
 add-target-at : tie.Need-add-target-at Inv-loop μ-loop
 add-target-at c = omega arith
 
--- src/single.rt:25:33
 target-at-requires : tie.Need-target-at-requires Inv-loop μ-loop
 target-at-requires c κs = omega arith
 
--- src/single.rt:25:12
 hits-requires : tie.Need-hits-requires Inv-loop μ-loop
 hits-requires c κs = let p = c .before .before .before .before .before .before .before .before .pre in (p .0, (p .1 .0, (row-content _ _ (p .0) (omega arith) (row-is _ _ (c .before .before .before .before .targets-at .ensures) (c .target-at .ensures)), rw (c .before .before .before .before .before .place-of .ensures) (placed _ _ (p .1 .1)))))
 
--- src/single.rt:26:13
 returns : tie.Need-returns Inv-loop μ-loop
 unfolding lastTarget
-returns c = behind-at (c .before .before .before .before .loop .inv) (c .before .before .before .loop-test .taken) (hit _ _ _ _ _ (c .before .before .before .before .before .before .before .place-of .ensures) (row-is _ _ (c .before .before .before .before .before .before .targets-at .ensures) (c .before .before .target-at .ensures)) (c .before .hits .ensures) (c .if1 .taken))
+returns c = let b = c .before .before .before in behind-at (b .before .loop .inv) (b .loop-test .taken) (hit _ _ _ _ _ (b .before .before .before .before .place-of .ensures) (row-is _ _ (b .before .before .before .targets-at .ensures) (c .before .before .target-at .ensures)) (c .before .hits .ensures) (c .if1 .taken))
 
--- src/single.rt:23:5
 loop-less : tie.Need-loop-less Inv-loop μ-loop
 loop-less c = omega arith
 
--- src/single.rt:23:5
 loop-again : tie.Need-loop-again Inv-loop μ-loop
-loop-again c = behind-more (c .before .before .before .before .loop .inv) (c .before .before .before .loop-test .taken) (hit _ _ _ _ _ (c .before .before .before .before .before .before .before .place-of .ensures) (row-is _ _ (c .before .before .before .before .before .before .targets-at .ensures) (c .before .before .target-at .ensures)) (c .before .hits .ensures) (c .if1 .left))
+loop-again c = let b = c .before .before .before in behind-more (b .before .loop .inv) (b .loop-test .taken) (hit _ _ _ _ _ (b .before .before .before .before .place-of .ensures) (row-is _ _ (b .before .before .before .targets-at .ensures) (c .before .before .target-at .ensures)) (c .before .hits .ensures) (c .if1 .left))
 
--- src/single.rt:16:1
 returns-2 : tie.Need-returns-2 Inv-loop μ-loop
 unfolding lastTarget
 returns-2 c = behind-all (c .before .loop .inv) (omega arith)

@@ -1,58 +1,44 @@
+-- Each kind of reading is its number; a row and a level are exact as floats.
 use borrow.Author.Needs.{needs}
 use Rattle.reading.proofs.value.number_of.Statement.{statement}
 use Rattle.reading.proofs.value.number_of.Tie as tie
-use Rattle.reading.proofs.value.number_of.Reads as reads
-use Rattle.reading.proofs.value.number_of.Lts as lts
 
--- src/value.rt:59:29
 enum-told : tie.Need-enum-told
 enum-told c = search needs
 
--- src/value.rt:60:25
 enum-known-r : tie.Need-enum-known-r
 enum-known-r c = search needs
 
--- src/value.rt:61:24
 enum-known-r-2 : tie.Need-enum-known-r-2
 enum-known-r-2 c = search needs
 
--- src/value.rt:62:22
 enum-known-r-3 : tie.Need-enum-known-r-3
 enum-known-r-3 c = search needs
 
--- src/value.rt:62:28
 int-to-float-result : tie.Need-int-to-float-result
 int-to-float-result c = search needs
 
--- src/value.rt:63:24
 enum-known-r-4 : tie.Need-enum-known-r-4
 enum-known-r-4 c = search needs
 
--- src/value.rt:63:30
 int-to-float-result-2 : tie.Need-int-to-float-result-2
 int-to-float-result-2 c = search needs
 
--- src/value.rt:55:1
 returns : tie.Need-returns
 returns c = search needs
 
--- src/value.rt:55:1
 returns-2 : tie.Need-returns-2
 returns-2 c = search needs
 
--- src/value.rt:55:1
 returns-3 : tie.Need-returns-3
 returns-3 c = search needs
 
--- src/value.rt:55:1
 returns-4 : tie.Need-returns-4
 returns-4 c = search needs
 
--- src/value.rt:55:1
 returns-5 : tie.Need-returns-5
 returns-5 c = rw (c .before .before .r3 .given .1)
 
--- src/value.rt:55:1
 returns-6 : tie.Need-returns-6
 returns-6 c = rw (c .before .before .r4 .given .1)
 

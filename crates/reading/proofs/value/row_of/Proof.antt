@@ -1,16 +1,13 @@
+-- An index below the number of textures is a row, any other leaves no override.
 use borrow.Author.Tests.{lt-ltb, le-ltb}
 use Rattle.reading.specs.Reading.{rowOf}
 use Rattle.reading.proofs.value.row_of.Statement.{statement}
 use Rattle.reading.proofs.value.row_of.Tie as tie
-use Rattle.reading.proofs.value.row_of.Reads as reads
-use Rattle.reading.proofs.value.row_of.Lts as lts
 
--- src/value.rt:16:1
 returns : tie.Need-returns
 unfolding rowOf
 returns c = rw (lt-ltb _ _ (c .if1 .taken))
 
--- src/value.rt:16:1
 returns-2 : tie.Need-returns-2
 unfolding rowOf
 returns-2 c = rw (le-ltb _ _ (c .if1 .left))

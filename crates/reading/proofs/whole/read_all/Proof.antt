@@ -1,3 +1,4 @@
+-- With nothing active the tables stay cleared; else the pass fills them.
 use mathlib.Core.Path.{_∙_}
 use Rattle.reading.specs.Reading.{noMark, noNumber}
 use Rattle.reading.specs.Overrides.{none-marked, none-numbered}
@@ -5,52 +6,37 @@ use Rattle.reading.proofs.Pass.{cleared-all}
 use borrow.Author.Needs.{needs}
 use Rattle.reading.proofs.whole.read_all.Statement.{statement}
 use Rattle.reading.proofs.whole.read_all.Tie as tie
-use Rattle.reading.proofs.whole.read_all.Reads as reads
-use Rattle.reading.proofs.whole.read_all.Lts as lts
-use Rattle.reading.proofs.whole.clear_marks.Reads as clear-marks-reads
-use Rattle.reading.proofs.whole.clear_numbers.Reads as clear-numbers-reads
-use Rattle.reading.proofs.whole.sweep.Reads as sweep-reads
 
--- src/whole.rt:126:5
 clear-marks-requires : tie.Need-clear-marks-requires
 clear-marks-requires c κs = search needs
 
--- src/whole.rt:127:5
 clear-numbers-requires : tie.Need-clear-numbers-requires
 clear-numbers-requires c κs = search needs
 
--- src/whole.rt:128:23
 enum-known-active : tie.Need-enum-known-active
 enum-known-active c = search needs
 
--- src/whole.rt:129:9
 sweep-requires : tie.Need-sweep-requires
 sweep-requires c κs = let p = c .before .before .before .before .before .before .before .before .before .before .before .before .before .before .before .before .before .before .before .before .pre in (p .0, (cleared-all noMark (c .before .before .before .before .before .before .before .before .before .before .before .clear-marks .ensures) (p .1 .0), cleared-all noNumber (c .before .before .before .before .before .before .before .clear-numbers .ensures) (p .1 .1)))
 
 enum-told : tie.Need-enum-told
 enum-told c = search needs
 
--- src/whole.rt:111:1
 same-length : tie.Need-same-length
 same-length c = search needs
 
--- src/whole.rt:111:1
 same-length-2 : tie.Need-same-length-2
 same-length-2 c = search needs
 
--- src/whole.rt:111:1
 returns : tie.Need-returns
-returns c = rw (c .before .before .before .before .before .before .before .before .active .given .1) (c .before .before .before .before .sweep .ensures)
+returns c = let b = c .before .before .before .before in rw (b .before .before .before .before .active .given .1) (b .sweep .ensures)
 
--- src/whole.rt:111:1
 same-length-3 : tie.Need-same-length-3
 same-length-3 c = search needs
 
--- src/whole.rt:111:1
 same-length-4 : tie.Need-same-length-4
 same-length-4 c = search needs
 
--- src/whole.rt:111:1
 returns-2 : tie.Need-returns-2
 returns-2 c =
     let p = c .before .before .before .before .before .before .before .before .before .before .before .before .before .before .before .before .before .pre in

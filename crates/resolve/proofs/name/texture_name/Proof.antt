@@ -1,3 +1,4 @@
+-- An override's row is one of the sheet's names; else the book's own name is handed back.
 use mathlib.Core.Path.{sym, _∙_, ap}
 use Rattle.channel.specs.Slot.{slot-below}
 use Rattle.channel.specs.Within.{material-below}
@@ -36,14 +37,14 @@ material-texture-requires c κs = search needs
 
 returns : tie.Need-returns
 unfolding textureOf
-returns c = rw (← c .before .before .before .before .before .before .slot-channel .ensures, ← c .before .before .before .before .before .of-material .ensures, ← c .before .before .before .before .read-channel .ensures, ← c .before .before .before .row-in .ensures, c .before .enum-told .given .1) (c .material-texture .ensures)
+returns c = let b = c .before .before .before in rw (← b .before .before .before .slot-channel .ensures, ← b .before .before .of-material .ensures, ← b .before .read-channel .ensures, ← b .row-in .ensures, c .before .enum-told .given .1) (c .material-texture .ensures)
 
 texture-name-requires : tie.Need-texture-name-requires
-texture-name-requires c κs = (c .before .before .before .before .before .before .before .before .before .before .before .before .pre .0 .sheet, named-below _ _ _ _ _ _ _ _ (ap rowIn (sym (c .before .before .before .before .read-channel .ensures)) ∙ sym (c .before .before .before .row-in .ensures) ∙ c .before .k .given .1))
+texture-name-requires c κs = let b = c .before .before .before in (b .before .before .before .before .before .before .before .before .before .pre .0 .sheet, named-below _ _ _ _ _ _ _ _ (ap rowIn (sym (b .before .read-channel .ensures)) ∙ sym (b .row-in .ensures) ∙ c .before .k .given .1))
 
 returns-2 : tie.Need-returns-2
 unfolding textureOf
-returns-2 c = rw (← c .before .before .before .before .before .before .before .slot-channel .ensures, ← c .before .before .before .before .before .before .of-material .ensures, ← c .before .before .before .before .before .read-channel .ensures, ← c .before .before .before .before .row-in .ensures, c .before .before .k .given .1) (c .texture-name .ensures)
+returns-2 c = let b = c .before .before .before .before in rw (← b .before .before .before .slot-channel .ensures, ← b .before .before .of-material .ensures, ← b .before .read-channel .ensures, ← b .row-in .ensures, c .before .before .k .given .1) (c .texture-name .ensures)
 
 pub texture-name-spec : {M : Type 1} → statement M
 texture-name-spec =

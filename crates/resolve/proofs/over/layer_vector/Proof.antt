@@ -1,23 +1,17 @@
+-- Two channels in a row, each over the book's number.
 use borrow.Author.Needs.{needs}
 use Rattle.resolve.proofs.over.layer_vector.Statement.{statement}
 use Rattle.resolve.proofs.over.layer_vector.Tie as tie
-use Rattle.resolve.proofs.over.layer_vector.Reads as reads
-use Rattle.resolve.proofs.over.layer_vector.Lts as lts
-use Rattle.resolve.proofs.over.material_number.Reads as material-number-reads
 
--- src/over.rt:191:12
 material-number-requires : tie.Need-material-number-requires
 material-number-requires c κs = search needs
 
--- src/over.rt:192:69
 add-material-number : tie.Need-add-material-number
 add-material-number c = search needs
 
--- src/over.rt:192:12
 material-number-requires-2 : tie.Need-material-number-requires-2
 material-number-requires-2 c κs = search needs
 
--- src/over.rt:176:1
 returns : tie.Need-returns
 returns c = rw (c .material-number2 .ensures, c .before .material-number .ensures)
 

@@ -1,27 +1,19 @@
+-- What the channel reads, or else the number of the book.
 use Rattle.channel.specs.Within.{material-below}
 use Rattle.resolve.specs.Resolve.{materialNumber}
 use borrow.Author.Needs.{needs}
 use Rattle.resolve.proofs.over.material_number.Statement.{statement}
 use Rattle.resolve.proofs.over.material_number.Tie as tie
-use Rattle.resolve.proofs.over.material_number.Reads as reads
-use Rattle.resolve.proofs.over.material_number.Lts as lts
-use Rattle.channel.proofs.of_material.Reads as of-material-reads
-use Rattle.reading.proofs.read_channel.Reads as read-channel-reads
-use Rattle.resolve.proofs.over.or_number.Reads as or-number-reads
 
--- src/over.rt:73:66
 of-material-requires : tie.Need-of-material-requires
 of-material-requires c κs = search needs
 
--- src/over.rt:73:15
 read-channel-requires : tie.Need-read-channel-requires
 read-channel-requires c κs = let p = c .before .before .before .before .before .before .pre in (p .0, rw (c .of-material .ensures) (material-below _ _ _ (p .1 .0) (p .1 .1)))
 
--- src/over.rt:73:5
 or-number-requires : tie.Need-or-number-requires
 or-number-requires c κs = search needs
 
--- src/over.rt:59:1
 returns : tie.Need-returns
 unfolding materialNumber
 returns c = rw (← c .before .before .of-material .ensures, ← c .before .read-channel .ensures) (c .or-number .ensures)

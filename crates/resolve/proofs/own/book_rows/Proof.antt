@@ -1,3 +1,4 @@
+-- After i turns the first i panes have what the book has.
 use Prim.Native.Nat.{_-_}
 use mathlib.Core.Path.{_∙_}
 use borrow.Author.Needs.{needs}
@@ -8,11 +9,6 @@ use Rattle.resolve.specs.Resolve.{bookAlpha}
 use Rattle.resolve.specs.Own.{bookBit}
 use Rattle.resolve.proofs.own.book_rows.Statement.{statement}
 use Rattle.resolve.proofs.own.book_rows.Tie as tie
-use Rattle.resolve.proofs.own.book_rows.Reads as reads
-use Rattle.resolve.proofs.own.book_rows.Lts as lts
-use Rattle.book.proofs.pane_count.Reads as pane-count-reads
-use Rattle.book.proofs.pane_row.Reads as pane-row-reads
-use Rattle.resolve.proofs.own.bit.Reads as bit-reads
 
 abbrev Inv-loop : tie.InvT-loop
 Inv-loop b visible₀ alpha₀ n i₀ visible alpha i = Filled (paneCount b) (bookBit b) visible i × Filled (paneCount b) (bookAlpha b) alpha i
@@ -20,61 +16,47 @@ Inv-loop b visible₀ alpha₀ n i₀ visible alpha i = Filled (paneCount b) (bo
 abbrev μ-loop : tie.MeasureT-loop
 μ-loop b visible₀ alpha₀ n i₀ visible alpha i = n - i
 
--- src/own.rt:39:9
 pane-count-requires : tie.Need-pane-count-requires Inv-loop μ-loop
 pane-count-requires c κs = omega arith
 
--- src/own.rt:41:5
 loop-holds : tie.Need-loop-holds Inv-loop μ-loop
 loop-holds c = let p = c .before .before .before .before .pre .1 in (rw (← p .0) (filled-none _ _), rw (← p .1) (filled-none _ _))
 
--- src/own.rt:42:13
 pane-row-requires : tie.Need-pane-row-requires Inv-loop μ-loop
 pane-row-requires c κs = (c .before .before .before .before .before .before .pre .0, omega arith)
 
--- src/own.rt:43:22
 bit-requires : tie.Need-bit-requires Inv-loop μ-loop
 bit-requires c κs = search needs
 
--- src/own.rt:43:9
 slice-write-visible : tie.Need-slice-write-visible Inv-loop μ-loop
 slice-write-visible c = omega arith
 
--- src/own.rt:44:20
 int-to-float-alpha : tie.Need-int-to-float-alpha Inv-loop μ-loop
 int-to-float-alpha c = search needs
 
--- src/own.rt:44:9
 mul-alpha : tie.Need-mul-alpha Inv-loop μ-loop
 mul-alpha c = omega arith
 
--- src/own.rt:44:9
 slice-write-alpha : tie.Need-slice-write-alpha Inv-loop μ-loop
 slice-write-alpha c = omega arith
 
--- src/own.rt:45:9
 add-i : tie.Need-add-i Inv-loop μ-loop
 add-i c = omega arith
 
--- src/own.rt:41:5
 loop-less : tie.Need-loop-less Inv-loop μ-loop
 loop-less c = omega arith
 
--- src/own.rt:41:5
 loop-again : tie.Need-loop-again Inv-loop μ-loop
 loop-again c =
     let v = c .before .before .before .before .loop .inv in
     (filled-more (v .0) (omega arith) (c .before .bit .ensures ∙ rw (c .before .before .pane-row .ensures)), filled-more (v .1) (omega arith) (rw (c .before .before .pane-row .ensures)))
 
--- src/own.rt:34:1
 same-length : tie.Need-same-length Inv-loop μ-loop
 same-length c = omega arith
 
--- src/own.rt:34:1
 same-length-2 : tie.Need-same-length-2 Inv-loop μ-loop
 same-length-2 c = omega arith
 
--- src/own.rt:34:1
 returns : tie.Need-returns Inv-loop μ-loop
 returns c = let v = c .before .loop .inv in (filled-all (v .0) (omega arith), filled-all (v .1) (omega arith))
 

@@ -1,30 +1,23 @@
+-- Only a pane that is reached has a row here.
 use borrow.Author.Needs.{needs}
 use Rattle.resolve.proofs.own.pane_in.Statement.{statement}
 use Rattle.resolve.proofs.own.pane_in.Tie as tie
-use Rattle.resolve.proofs.own.pane_in.Reads as reads
-use Rattle.resolve.proofs.own.pane_in.Lts as lts
 
--- src/own.rt:66:23
 enum-known-r : tie.Need-enum-known-r
 enum-known-r c = search needs
 
--- src/own.rt:67:33
 enum-told : tie.Need-enum-told
 enum-told c = search needs
 
--- src/own.rt:68:29
 enum-told-2 : tie.Need-enum-told-2
 enum-told-2 c = search needs
 
--- src/own.rt:62:1
 returns : tie.Need-returns
 returns c = rw (c .before .r .given .1)
 
--- src/own.rt:62:1
 returns-2 : tie.Need-returns-2
 returns-2 c = search needs
 
--- src/own.rt:62:1
 returns-3 : tie.Need-returns-3
 returns-3 c = search needs
 

@@ -1,35 +1,25 @@
-use mathlib.Core.Path.{_∙_, ap}
+-- Each pane's own visible and alpha first, then the way down by parent.
 use Rattle.resolve.specs.Cascade.{visibles, alphas, influences}
 use Rattle.resolve.proofs.Down.{own-rows-make}
 use borrow.Author.Needs.{needs}
 use Rattle.resolve.proofs.rows.cascade.Statement.{statement}
 use Rattle.resolve.proofs.rows.cascade.Tie as tie
-use Rattle.resolve.proofs.rows.cascade.Reads as reads
-use Rattle.resolve.proofs.rows.cascade.Lts as lts
-use Rattle.resolve.proofs.own.own_rows.Reads as own-rows-reads
-use Rattle.resolve.proofs.rows.descend.Reads as descend-reads
 
--- src/rows.rt:97:5
 own-rows-requires : tie.Need-own-rows-requires
 own-rows-requires c κs = search needs
 
--- src/rows.rt:98:5
 descend-requires : tie.Need-descend-requires
 descend-requires c κs = search needs
 
--- src/rows.rt:80:1
 same-length : tie.Need-same-length
 same-length c = search needs
 
--- src/rows.rt:80:1
 same-length-2 : tie.Need-same-length-2
 same-length-2 c = search needs
 
--- src/rows.rt:80:1
 same-length-3 : tie.Need-same-length-3
 same-length-3 c = search needs
 
--- src/rows.rt:80:1
 returns : tie.Need-returns
 unfolding visibles alphas influences
 returns c =

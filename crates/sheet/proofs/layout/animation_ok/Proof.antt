@@ -1,3 +1,4 @@
+-- Looping, next present and the empty next name are tested in the row's own bytes.
 use Rattle.sheet.specs.Sheet.{animationOk}
 use borrow.Author.Needs.{needs}
 use Rattle.sheet.proofs.layout.animation_ok.Statement.{statement}

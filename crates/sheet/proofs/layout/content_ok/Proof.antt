@@ -1,3 +1,4 @@
+-- Type, padding and animation are tested in the row's own bytes, the animation against the row before.
 use Rattle.sheet.specs.Sheet.{contentOk}
 use borrow.Author.Needs.{needs}
 use Rattle.sheet.proofs.layout.content_ok.Statement.{statement}

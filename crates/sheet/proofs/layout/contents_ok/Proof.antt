@@ -1,3 +1,4 @@
+-- Every content passed keeps its layout; the first that doesn't ends the loop.
 use native.Mathlib.Omega.{arith}
 use Prim.Native.Nat.{_-_}
 use Rattle.laws.specs.Below.{Passed, passed-none, passed-more, passed-not, passed-all}

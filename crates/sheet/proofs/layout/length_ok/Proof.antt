@@ -1,3 +1,4 @@
+-- The length is held to the sum that the sizes say, which fits.
 use Rattle.sheet.specs.Sheet.{lengthOk}
 use borrow.Author.Needs.{needs}
 use Rattle.sheet.proofs.layout.length_ok.Statement.{statement}

@@ -1,10 +1,11 @@
+-- Each test is made once the ones before it have shown that its bytes are there.
 use native.Mathlib.Omega.{arith}
 use mathlib.Core.Path.{_≡_}
 use mathlib.Core.Bool.{true}
 use borrow.Author.Tests.{le-leb, lt-leb}
 use denote.Ref.{now}
 use Rattle.laws.specs.Tests.{no, yes}
-use Rattle.sheet.specs.Sheet.{sizesOk, lengthOk, sheetOk}
+use Rattle.sheet.specs.Sheet.{lengthOk, sheetOk}
 use Rattle.sheet.specs.Checked.{length-known}
 use borrow.Author.Needs.{needs}
 use Rattle.sheet.proofs.layout.sheet_ok.Statement.{statement}

@@ -1,3 +1,4 @@
+-- The six sizes are held to document 01's ranges.
 use Rattle.sheet.specs.Sheet.{sizesOk}
 use borrow.Author.Needs.{needs}
 use Rattle.sheet.proofs.layout.sizes_ok.Statement.{statement}

@@ -1,3 +1,4 @@
+-- Curve, padding, content and first key are tested in the row's own bytes, the content against the row before.
 use Rattle.sheet.specs.Sheet.{targetFrom}
 use borrow.Author.Needs.{needs}
 use Rattle.sheet.proofs.layout.target_from.Statement.{statement}

@@ -1,3 +1,4 @@
+-- Every target passed starts where the counts before it end; after the last the sum is K.
 use native.Mathlib.Omega.{arith}
 use Prim.Native.Nat.{_-_, _*_, _≤_}
 use mathlib.Core.Path.{_≡_, sym}

@@ -1,3 +1,4 @@
+-- The fields are the bytes of the animation's row, which lies within a checked sheet.
 use Rattle.sheet.specs.Rows.{animationRow}
 use borrow.Author.Needs.{needs}
 use Rattle.sheet.proofs.rows.animation_row.Statement.{statement}

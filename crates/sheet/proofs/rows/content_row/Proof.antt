@@ -1,3 +1,4 @@
+-- The fields are the bytes of the content's row, which lies within a checked sheet.
 use Rattle.sheet.specs.Rows.{contentRow}
 use borrow.Author.Needs.{needs}
 use Rattle.sheet.proofs.rows.content_row.Statement.{statement}

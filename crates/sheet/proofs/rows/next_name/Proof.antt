@@ -1,3 +1,4 @@
+-- The field lies within a checked sheet.
 use Rattle.sheet.specs.Rows.{nextName}
 use borrow.Author.Needs.{needs}
 use Rattle.sheet.proofs.rows.next_name.Statement.{statement}

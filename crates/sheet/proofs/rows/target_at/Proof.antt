@@ -1,3 +1,4 @@
+-- The fields are the bytes of the row at that place.
 use borrow.Author.Needs.{needs}
 use Rattle.sheet.proofs.rows.target_at.Statement.{statement}
 use Rattle.sheet.proofs.rows.target_at.Tie as tie

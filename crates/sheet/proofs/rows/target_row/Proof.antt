@@ -1,3 +1,4 @@
+-- The place of row i lies within a checked sheet.
 use Rattle.sheet.specs.Rows.{targetRow}
 use borrow.Author.Needs.{needs}
 use Rattle.sheet.proofs.rows.target_row.Statement.{statement}

@@ -1,3 +1,4 @@
+-- The field lies within a checked sheet.
 use Rattle.sheet.specs.Rows.{textureName}
 use borrow.Author.Needs.{needs}
 use Rattle.sheet.proofs.rows.texture_name.Statement.{statement}

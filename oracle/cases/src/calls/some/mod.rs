@@ -77,7 +77,7 @@ fn any_pair(random: &mut Random) -> (Sheet, Book) {
     (sheet, book)
 }
 
-pub fn sized_pair(
+fn sized_pair(
     random: &mut Random,
     size: books::Size,
     targets: usize,

@@ -15,7 +15,7 @@ pub enum Spoil {
     /// A key's number: array 0 frames, 1 values, 2 slopes.
     Key { array: u8, index: u16, bits: u32 },
     /// One array is handed on one short from now on: 0 none, 1 frames, 2 values,
-    /// 3 slopes; or one long, 4 to 6, which no stored list has.
+    /// 3 slopes; or one long, 4 to 6.
     Short(u8),
     /// Other bytes are lent for the sheet, which are no sheet, or the sheet again.
     Sheet(Vec<u8>),
@@ -23,8 +23,8 @@ pub enum Spoil {
     Book(Vec<u8>),
 }
 
-/// The player's fields, by the numbers that a stored list has. From 12 on the
-/// entry's frame, value and slope before, then after.
+/// The player's fields by number. From 12 on the entry's frame, value and slope
+/// before, then after.
 pub const SELECTION: u8 = 0;
 pub const PLAYING: u8 = 1;
 pub const PREVIEW: u8 = 2;

@@ -31,17 +31,6 @@ pub fn any(random: &mut Random, held: &Held) -> Vec<Spoil> {
     }
 }
 
-/// The same, of what a stored list can hold: its sheet and book stay.
-pub fn stored(random: &mut Random, held: &Held) -> Vec<Spoil> {
-    loop {
-        let spoils = any(random, held);
-        let other = |spoil: &Spoil| matches!(spoil, Spoil::Sheet(_) | Spoil::Book(_));
-        if !spoils.iter().any(other) {
-            return spoils;
-        }
-    }
-}
-
 /// What stands in a count.
 fn count_of(p: &Player, field: u8) -> u64 {
     replace(&mut p.clone(), field, 0, 0)

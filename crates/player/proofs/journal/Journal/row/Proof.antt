@@ -1,3 +1,4 @@
+-- `row` answers `rowOf`: the entry of standing edit number n.
 use mathlib.Core.Path.{refl}
 use Rattle.player.specs.Journal.{rowOf}
 use borrow.Author.Needs.{needs}

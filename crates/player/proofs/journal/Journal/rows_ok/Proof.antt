@@ -1,3 +1,4 @@
+-- `rows_ok` answers `allBelow`: whether the n rows from edit number `first` on each name a key of the sheet; its loop ends.
 use Prim.Native.Nat.{_-_}
 use mathlib.Core.Path.{sym, _∙_}
 use native.Mathlib.Omega.{arith}
@@ -42,11 +43,17 @@ loop-less c = omega arith
 
 loop-again : tie.Need-loop-again Inv-loop μ-loop
 unfolding usedOk rowOf
-loop-again c = passed-more (c .before .before .before .before .before .loop .inv) (c .before .before .before .before .loop-test .taken) (sym (c .before .has-key .ensures) ∙ c .if1 .taken)
+loop-again c =
+    let at-loop-test = c .before .before .before .before in
+    let at-loop = at-loop-test .before in
+    passed-more (at-loop .loop .inv) (at-loop-test .loop-test .taken) (sym (c .before .has-key .ensures) ∙ c .if1 .taken)
 
 returns : tie.Need-returns Inv-loop μ-loop
 unfolding usedOk rowOf
-returns c = passed-not (c .before .before .before .before .before .loop .inv) (c .before .before .before .before .loop-test .taken) (sym (c .before .has-key .ensures) ∙ c .if1 .left)
+returns c =
+    let at-loop-test = c .before .before .before .before in
+    let at-loop = at-loop-test .before in
+    passed-not (at-loop .loop .inv) (at-loop-test .loop-test .taken) (sym (c .before .has-key .ensures) ∙ c .if1 .left)
 
 returns-2 : tie.Need-returns-2 Inv-loop μ-loop
 returns-2 c = passed-all (c .before .loop .inv) (c .loop-test .left)

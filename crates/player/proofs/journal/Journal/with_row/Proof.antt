@@ -1,3 +1,4 @@
+-- `with_row` answers `withRow`: the journal with e as the entry of edit number n.
 use mathlib.Core.Path.{refl}
 use Rattle.player.specs.Journal.{withRow}
 use borrow.Author.Needs.{needs}

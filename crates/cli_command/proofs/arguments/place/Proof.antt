@@ -1,0 +1,62 @@
+-- `place` keeps to the bounds that it promises: which word is number k, where those that ask for no progress are not counted.
+use Prim.Native.Nat.{_-_, _≤_}
+use borrow.Author.Needs.{needs}
+use Rattle.cli_command.proofs.arguments.place.Statement.{statement}
+use Rattle.cli_command.proofs.arguments.place.Tie as tie
+
+abbrev Inv-loop : tie.InvT-loop
+Inv-loop line k seen₀ next₀ seen next = (seen ≤ next) × (next ≤ 64)
+
+abbrev μ-loop : tie.MeasureT-loop
+μ-loop line k seen₀ next₀ seen next = 64 - next
+
+loop-holds : tie.Need-loop-holds Inv-loop μ-loop
+loop-holds c = search needs
+
+add-next : tie.Need-add-next Inv-loop μ-loop
+add-next c = search needs
+
+line-requires : tie.Need-line-requires Inv-loop μ-loop
+line-requires c κs = search needs
+
+is-quiet-requires : tie.Need-is-quiet-requires Inv-loop μ-loop
+is-quiet-requires c κs = search needs
+
+loop-less : tie.Need-loop-less Inv-loop μ-loop
+loop-less c = search needs
+
+loop-again : tie.Need-loop-again Inv-loop μ-loop
+loop-again c = search needs
+
+returns : tie.Need-returns Inv-loop μ-loop
+returns c = search needs
+
+add-seen : tie.Need-add-seen Inv-loop μ-loop
+add-seen c = search needs
+
+loop-less-2 : tie.Need-loop-less-2 Inv-loop μ-loop
+loop-less-2 c = search needs
+
+loop-again-2 : tie.Need-loop-again-2 Inv-loop μ-loop
+loop-again-2 c = search needs
+
+returns-2 : tie.Need-returns-2 Inv-loop μ-loop
+returns-2 c = search needs
+
+pub place-spec : {M : Type 1} → statement M
+place-spec =
+    tie.close
+    (tie.spec
+    Inv-loop
+    μ-loop
+    loop-holds
+    add-next
+    line-requires
+    is-quiet-requires
+    loop-less
+    loop-again
+    returns
+    add-seen
+    loop-less-2
+    loop-again-2
+    returns-2)

@@ -1,0 +1,96 @@
+-- `say_cascade_in` stays inside its slices. The same with room for the outputs.
+use mathlib.Core.Path.{sym}
+use native.Mathlib.Omega.{arith}
+use borrow.Author.Needs.{needs}
+use lib.Seq.{length-take-le}
+use Rattle.cli_facts.proofs.cascade.say_cascade_in.Statement.{statement}
+use Rattle.cli_facts.proofs.cascade.say_cascade_in.Tie as tie
+
+pane-count-requires : tie.Need-pane-count-requires
+pane-count-requires c κs = search needs
+
+slice-relend-prefix-cascade : tie.Need-slice-relend-prefix-cascade
+slice-relend-prefix-cascade c = search needs
+
+slice-aggregate-cascade : tie.Need-slice-aggregate-cascade
+slice-aggregate-cascade c = sym (length-take-le _ _ (omega arith))
+
+slice-relend-prefix-cascade-2 : tie.Need-slice-relend-prefix-cascade-2
+slice-relend-prefix-cascade-2 c = search needs
+
+slice-aggregate-cascade-2 : tie.Need-slice-aggregate-cascade-2
+slice-aggregate-cascade-2 c = sym (length-take-le _ _ (omega arith))
+
+slice-relend-prefix-cascade-3 : tie.Need-slice-relend-prefix-cascade-3
+slice-relend-prefix-cascade-3 c = search needs
+
+slice-aggregate-cascade-3 : tie.Need-slice-aggregate-cascade-3
+slice-aggregate-cascade-3 c = sym (length-take-le _ _ (omega arith))
+
+cascade-requires : tie.Need-cascade-requires
+cascade-requires c κs = search needs
+
+say-lead-requires : tie.Need-say-lead-requires
+say-lead-requires c κs = search needs
+
+say-refusal-requires : tie.Need-say-refusal-requires
+say-refusal-requires c κs = search needs
+
+slice-aggregate-say : tie.Need-slice-aggregate-say
+slice-aggregate-say c = search needs
+
+say-requires : tie.Need-say-requires
+say-requires c κs = search needs
+
+same-length : tie.Need-same-length
+same-length c = search needs
+
+same-length-2 : tie.Need-same-length-2
+same-length-2 c = search needs
+
+same-length-3 : tie.Need-same-length-3
+same-length-3 c = search needs
+
+returns : tie.Need-returns
+returns c = search needs
+
+say-states-requires : tie.Need-say-states-requires
+say-states-requires c κs = search needs
+
+same-length-4 : tie.Need-same-length-4
+same-length-4 c = search needs
+
+same-length-5 : tie.Need-same-length-5
+same-length-5 c = search needs
+
+same-length-6 : tie.Need-same-length-6
+same-length-6 c = search needs
+
+returns-2 : tie.Need-returns-2
+returns-2 c = search needs
+
+pub say-cascade-in-spec : {M : Type 1} → statement M
+say-cascade-in-spec =
+    tie.close
+    (tie.spec
+    pane-count-requires
+    slice-relend-prefix-cascade
+    slice-aggregate-cascade
+    slice-relend-prefix-cascade-2
+    slice-aggregate-cascade-2
+    slice-relend-prefix-cascade-3
+    slice-aggregate-cascade-3
+    cascade-requires
+    say-lead-requires
+    say-refusal-requires
+    slice-aggregate-say
+    say-requires
+    same-length
+    same-length-2
+    same-length-3
+    returns
+    say-states-requires
+    same-length-4
+    same-length-5
+    same-length-6
+    returns-2)

@@ -1,0 +1,46 @@
+-- `say_materials` stays inside its slices and its loop ends.
+use Prim.Native.Nat.{_-_}
+use borrow.Author.Needs.{needs}
+use Rattle.cli_facts.proofs.readings.say_materials.Statement.{statement}
+use Rattle.cli_facts.proofs.readings.say_materials.Tie as tie
+
+abbrev Inv-loop : tie.InvT-loop
+Inv-loop lead p s b frames values slopes marks numbers n i₀ i = Unit {0}
+
+abbrev μ-loop : tie.MeasureT-loop
+μ-loop lead p s b frames values slopes marks numbers n i₀ i = n - i
+
+material-count-requires : tie.Need-material-count-requires Inv-loop μ-loop
+material-count-requires c κs = search needs
+
+loop-holds : tie.Need-loop-holds Inv-loop μ-loop
+loop-holds c = search needs
+
+say-material-row-requires : tie.Need-say-material-row-requires Inv-loop μ-loop
+say-material-row-requires c κs = search needs
+
+add-i : tie.Need-add-i Inv-loop μ-loop
+add-i c = search needs
+
+loop-less : tie.Need-loop-less Inv-loop μ-loop
+loop-less c = search needs
+
+loop-again : tie.Need-loop-again Inv-loop μ-loop
+loop-again c = search needs
+
+returns : tie.Need-returns Inv-loop μ-loop
+returns c = search needs
+
+pub say-materials-spec : {M : Type 1} → statement M
+say-materials-spec =
+    tie.close
+    (tie.spec
+    Inv-loop
+    μ-loop
+    material-count-requires
+    loop-holds
+    say-material-row-requires
+    add-i
+    loop-less
+    loop-again
+    returns)

@@ -1,0 +1,46 @@
+-- `say_panes` stays inside its slices and its loop ends.
+use Prim.Native.Nat.{_-_}
+use borrow.Author.Needs.{needs}
+use Rattle.cli_facts.proofs.readings.say_panes.Statement.{statement}
+use Rattle.cli_facts.proofs.readings.say_panes.Tie as tie
+
+abbrev Inv-loop : tie.InvT-loop
+Inv-loop lead b marks numbers n i₀ i = Unit {0}
+
+abbrev μ-loop : tie.MeasureT-loop
+μ-loop lead b marks numbers n i₀ i = n - i
+
+pane-count-requires : tie.Need-pane-count-requires Inv-loop μ-loop
+pane-count-requires c κs = search needs
+
+loop-holds : tie.Need-loop-holds Inv-loop μ-loop
+loop-holds c = search needs
+
+say-pane-row-requires : tie.Need-say-pane-row-requires Inv-loop μ-loop
+say-pane-row-requires c κs = search needs
+
+add-i : tie.Need-add-i Inv-loop μ-loop
+add-i c = search needs
+
+loop-less : tie.Need-loop-less Inv-loop μ-loop
+loop-less c = search needs
+
+loop-again : tie.Need-loop-again Inv-loop μ-loop
+loop-again c = search needs
+
+returns : tie.Need-returns Inv-loop μ-loop
+returns c = search needs
+
+pub say-panes-spec : {M : Type 1} → statement M
+say-panes-spec =
+    tie.close
+    (tie.spec
+    Inv-loop
+    μ-loop
+    pane-count-requires
+    loop-holds
+    say-pane-row-requires
+    add-i
+    loop-less
+    loop-again
+    returns)

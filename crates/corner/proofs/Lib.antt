@@ -1,0 +1,2 @@
+-- The known poses of corners.
+pub mod Known

@@ -1,0 +1,7 @@
+-- Edits of one key, and the keys of a sheet.
+pub mod Keys
+pub mod Edit
+pub mod Spot
+pub mod Put
+pub mod Accepted
+pub mod Edits

@@ -1,0 +1,137 @@
+-- What the rows that calls share tell where each holds, and how a call's own rows follow them. Assumes nothing.
+use Prim.Native.Nat.{ℕ}
+use mathlib.Core.Path.{_≡_, sym, _∙_}
+use mathlib.Core.Bool.{true, cond}
+use mathlib.Core.List.{List, [], _++_}
+use borrow.Author.Tests.{eqb-true, ne-eqb}
+use lib.Dec.{eqb}
+use lib.ListN.{length}
+use lib.Ieee.{Float}
+use Rattle.laws.specs.Rows.{Row, declines, first-held, hold-at, row-in, stops, goes, row-laws}
+use Rattle.laws.specs.Tests.{both}
+use Rattle.sheet.specs.Sizes.{keyCount}
+use Rattle.sheet.specs.Checked.{Checked, checked}
+use Rattle.keys.specs.Load.{arraysOk, lengthsOk}
+use Rattle.reading.specs.Ready.{Ready, ready}
+use Rattle.player.specs.declared.Player.{Player}
+use Rattle.edit.specs.Keys.{Keys, keys, keysOkOf}
+use Rattle.player.specs.Sound.{Sound, sound, selected-below}
+use Rattle.player.specs.declared.journal.Entry.{Entry}
+use Rattle.player.specs.declared.undo.Way.{Way}
+use Rattle.player.specs.Undo.{entries, entryOf}
+use Rattle.player.specs.Takes.{Takeable, entry-used}
+use Rattle.player.specs.Ticked.{Selected}
+use Rattle.menu_checks.specs.Rows.{brokenRows, playerRows, keysRows, stateRows, bookRows, readingRows}
+
+-- ---- calls that take sheet and player
+pub record PlayerReady (s : List ℕ) (p : Player) : Type 0 where
+  pub sheet : Checked s
+  pub player : Sound s p
+
+pub player-ready : (s : List ℕ) (p : Player) (more : List Row) {n : ℕ} → n ≡ declines (playerRows s p ++ more) → n ≡ 0 → PlayerReady s p
+player-ready s p more e z =
+    let h = first-held (playerRows s p) more tt (sym e ∙ z) .0 in
+    record { sheet = checked s (hold-at 1 (playerRows s p) (search row-in) h); player = sound s p (hold-at 5 (playerRows s p) (search row-in) h) }
+
+pub selected : {s : List ℕ} {p : Player} → PlayerReady s p → Selected s p
+selected w = record { sheet = w .sheet; selection = selected-below (w .player) }
+
+-- ---- calls that take keys as well
+pub record StateReady (s : List ℕ) (p : Player) (ks : Keys) : Type 0 where
+  pub sheet : Checked s
+  pub frames : length (ks .frames) ≡ keyCount s
+  pub values : length (ks .values) ≡ keyCount s
+  pub slopes : length (ks .slopes) ≡ keyCount s
+  pub rules : keysOkOf s ks ≡ true
+  pub player : Sound s p
+
+pub state-ready : (s : List ℕ) (p : Player) (fs vs ss : List Float) (more : List Row) {n : ℕ} → n ≡ declines (stateRows s p (keys fs vs ss) ++ more) → n ≡ 0
+    → StateReady s p (keys fs vs ss)
+unfolding arraysOk lengthsOk
+state-ready s p fs vs ss more e z =
+    let k = first-held (keysRows s (keys fs vs ss)) (brokenRows s p ++ more) tt (sym e ∙ z) in
+    let long : lengthsOk s fs vs ss ≡ true = hold-at 3 (keysRows s (keys fs vs ss)) (search row-in) (k .0) in
+    let b = both _ (eqb (length ss) (keyCount s)) long in
+    let a = both (eqb (length fs) (keyCount s)) (eqb (length vs) (keyCount s)) (b .0) in
+    record {
+      sheet = checked s (hold-at 1 (keysRows s (keys fs vs ss)) (search row-in) (k .0));
+      frames = eqb-true _ _ (a .0);
+      values = eqb-true _ _ (a .1);
+      slopes = eqb-true _ _ (b .1);
+      rules = hold-at 4 (keysRows s (keys fs vs ss)) (search row-in) (k .0);
+      player = sound s p (hold-at 5 (brokenRows s p) (search row-in) (first-held (brokenRows s p) more tt (k .1) .0));
+    }
+
+-- as an undo and a redo ask it, of the entry that the player takes
+pub takeable : {s : List ℕ} {p : Player} {ks : Keys} {n : ℕ} {e : Entry} (way : Way) → StateReady s p ks → n ≡ entries way p → e ≡ entryOf way p → Takeable s ks n e
+takeable way w q h = record { sheet = w .sheet; rules = w .rules; entry = λ d. rw h (entry-used (w .player) way (rw q at d)) }
+
+-- ---- calls that take a book as well
+pub record ReadingReady (s b : List ℕ) (p : Player) (ks : Keys) : Type 0 where
+  pub ready : Ready s b (ks .frames) (ks .values) (ks .slopes)
+  pub player : Sound s p
+
+pub reading-ready : (s b : List ℕ) (p : Player) (fs vs ss : List Float) (more : List Row) {n : ℕ} → n ≡ declines (readingRows s b p (keys fs vs ss) ++ more) → n ≡ 0
+    → ReadingReady s b p (keys fs vs ss)
+reading-ready s b p fs vs ss more e z =
+    let k = first-held (bookRows s b (keys fs vs ss)) (brokenRows s p ++ more) tt (sym e ∙ z) in
+    let rs = bookRows s b (keys fs vs ss) in
+    record {
+      ready = ready s b fs vs ss (hold-at 1 rs (search row-in) (k .0)) (hold-at 2 rs (search row-in) (k .0)) (hold-at 4 rs (search row-in) (k .0));
+      player = sound s p (hold-at 5 (brokenRows s p) (search row-in) (first-held (brokenRows s p) more tt (k .1) .0));
+    }
+
+-- ---- a call's own rows behind those that it shares: its list stops with them, or goes on. `stops` and `goes` for each list that calls share, since
+-- `search` finds where a named list ends in one that has computed, and not where any list does.
+module _ (s : List ℕ) (fs vs ss : List Float) (more : List Row) {n : ℕ} (e : n ≡ declines (keysRows s (keys fs vs ss))) where
+  pub keys-stops : (n ≡ 0 → ⊥) → n ≡ declines (keysRows s (keys fs vs ss) ++ more)
+  keys-stops d = stops (keysRows s (keys fs vs ss)) more e d
+
+  pub keys-goes : {m : ℕ} → n ≡ 0 → m ≡ declines more → m ≡ declines (keysRows s (keys fs vs ss) ++ more)
+  keys-goes z h = goes (keysRows s (keys fs vs ss)) more tt e z h
+
+module _ (s b : List ℕ) (fs vs ss : List Float) (more : List Row) {n : ℕ} (e : n ≡ declines (bookRows s b (keys fs vs ss))) where
+  pub book-stops : (n ≡ 0 → ⊥) → n ≡ declines (bookRows s b (keys fs vs ss) ++ more)
+  book-stops d = stops (bookRows s b (keys fs vs ss)) more e d
+
+  pub book-goes : {m : ℕ} → n ≡ 0 → m ≡ declines more → m ≡ declines (bookRows s b (keys fs vs ss) ++ more)
+  book-goes z h = goes (bookRows s b (keys fs vs ss)) more tt e z h
+
+module _ (s : List ℕ) (p : Player) (more : List Row) {n : ℕ} (e : n ≡ declines (playerRows s p)) where
+  pub player-stops : (n ≡ 0 → ⊥) → n ≡ declines (playerRows s p ++ more)
+  player-stops d = stops (playerRows s p) more e d
+
+  pub player-goes : {m : ℕ} → n ≡ 0 → m ≡ declines more → m ≡ declines (playerRows s p ++ more)
+  player-goes z h = goes (playerRows s p) more tt e z h
+
+module _ (s : List ℕ) (p : Player) (fs vs ss : List Float) (more : List Row) {n : ℕ} (e : n ≡ declines (stateRows s p (keys fs vs ss))) where
+  pub state-stops : (n ≡ 0 → ⊥) → n ≡ declines (stateRows s p (keys fs vs ss) ++ more)
+  state-stops d = stops (stateRows s p (keys fs vs ss)) more e d
+
+  pub state-goes : {m : ℕ} → n ≡ 0 → m ≡ declines more → m ≡ declines (stateRows s p (keys fs vs ss) ++ more)
+  state-goes z h = goes (stateRows s p (keys fs vs ss)) more tt e z h
+
+module _ (s b : List ℕ) (p : Player) (fs vs ss : List Float) (more : List Row) {n : ℕ} (e : n ≡ declines (readingRows s b p (keys fs vs ss))) where
+  pub reading-stops : (n ≡ 0 → ⊥) → n ≡ declines (readingRows s b p (keys fs vs ss) ++ more)
+  reading-stops d = stops (readingRows s b p (keys fs vs ss)) more e d
+
+  pub reading-goes : {m : ℕ} → n ≡ 0 → m ≡ declines more → m ≡ declines (readingRows s b p (keys fs vs ss) ++ more)
+  reading-goes z h = goes (readingRows s b p (keys fs vs ss)) more tt e z h
+
+-- what closes a `return` of a check, by the rows that it shares
+pub ruleset after-keys = (row-laws, keys-stops, keys-goes)
+
+pub ruleset after-book = (row-laws, book-stops, book-goes)
+
+pub ruleset after-player = (row-laws, player-stops, player-goes)
+
+pub ruleset after-state = (row-laws, state-stops, state-goes)
+
+pub ruleset after-reading = (row-laws, reading-stops, reading-goes)
+
+-- ---- names: empty where the call is declined
+pub name-refused : {n m : ℕ} (x : List ℕ) → n ≡ m → (n ≡ 0 → ⊥) → [] ≡ cond (eqb m 0) x []
+name-refused {n} x e d = rw (← e, ne-eqb n 0 d)
+
+pub name-made : {m : ℕ} {x y : List ℕ} → 0 ≡ m → x ≡ y → x ≡ cond (eqb m 0) y []
+name-made e h = rw (← e, h)

@@ -1,0 +1,36 @@
+-- The rows of document 01's table "What a call declines" that look at what calls take, whatever they do. A call's own rows follow them. Definitions only.
+use Prim.Native.Nat.{ℕ}
+use mathlib.Core.List.{List, [], _∷_, _++_}
+use Rattle.laws.specs.Rows.{Row, row}
+use Rattle.sheet.specs.Sheet.{sheetOk}
+use Rattle.book.specs.Book.{bookOk}
+use Rattle.keys.specs.Load.{lentRows}
+use Rattle.edit.specs.Keys.{Keys}
+use Rattle.player.specs.declared.Player.{Player}
+use Rattle.player.specs.Player.{playerOk}
+
+-- keys: rows 3 and 4
+abbrev pub arrayRows : List ℕ → Keys → List Row
+arrayRows s ks = lentRows s (ks .frames) (ks .values) (ks .slopes)
+
+-- a player: row 5
+abbrev pub brokenRows : List ℕ → Player → List Row
+brokenRows s p = row 5 (playerOk s p) ∷ []
+
+-- sheet and player
+abbrev pub playerRows : List ℕ → Player → List Row
+playerRows s p = row 1 (sheetOk s) ∷ brokenRows s p
+
+-- sheet and keys; with a player as well
+abbrev pub keysRows : List ℕ → Keys → List Row
+keysRows s ks = row 1 (sheetOk s) ∷ arrayRows s ks
+
+abbrev pub stateRows : List ℕ → Player → Keys → List Row
+stateRows s p ks = keysRows s ks ++ brokenRows s p
+
+-- sheet, book and keys; with a player as well
+abbrev pub bookRows : List ℕ → List ℕ → Keys → List Row
+bookRows s b ks = row 1 (sheetOk s) ∷ row 2 (bookOk b) ∷ arrayRows s ks
+
+abbrev pub readingRows : List ℕ → List ℕ → Player → Keys → List Row
+readingRows s b p ks = bookRows s b ks ++ brokenRows s p

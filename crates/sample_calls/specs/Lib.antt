@@ -1,2 +1,0 @@
--- Stored lists of calls.
-pub mod Ran

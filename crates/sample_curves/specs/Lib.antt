@@ -1,2 +1,0 @@
--- Stored cases of curves.
-pub mod Curves

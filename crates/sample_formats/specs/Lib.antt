@@ -1,2 +1,0 @@
--- Stored cases of sheets and books.
-pub mod Refused

@@ -1,3 +1,0 @@
-// The families of UVs and of corners, refusals included.
-pub mod corners;
-pub mod uvs;

@@ -1,0 +1,2 @@
+-- The known poses of UVs.
+pub mod Known

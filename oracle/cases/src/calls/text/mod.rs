@@ -1,0 +1,297 @@
+//! Calls as the command line's `replay` takes them, one a line, and their answers
+//! as it writes them. Both are made from the calls and answers here alone.
+
+mod channel;
+mod number;
+
+use super::held::Held;
+use super::readings::{material_reading, pane_reading};
+use super::{Answer, Call, NONE, One, Request, Tick, Told};
+use crate::format::book::Book;
+use crate::readings::whole::{MATERIAL_CHANNELS, PANE_CHANNELS};
+use number::{argument, number};
+
+/// Whether a call may move the player or its keys.
+pub fn moves(call: &Call) -> bool {
+    matches!(
+        call,
+        Call::Play(_)
+            | Call::Pose(..)
+            | Call::Tick { .. }
+            | Call::Edit { .. }
+            | Call::Undo
+            | Call::Redo
+    )
+}
+
+/// A call's line; nothing for one that lends an output of another length, which
+/// no line can say.
+pub fn line(call: &Call) -> Option<String> {
+    Some(match *call {
+        Call::Play(animation) => format!("play {}", selection(animation)),
+        Call::Pose(animation, frame) => {
+            format!("pose {} {}", selection(animation), argument(frame))
+        }
+        Call::Tick { dt, fps } => format!("tick {} {}", argument(dt), argument(fps)),
+        Call::Edit {
+            track,
+            key,
+            request,
+        } => edit(track, key, request),
+        Call::Undo => "undo".to_string(),
+        Call::Redo => "redo".to_string(),
+        Call::ReadPane { pane, channel } => {
+            format!("read pane {pane} {}", channel::of_pane(channel))
+        }
+        Call::ReadMaterial { material, channel } => {
+            format!("read material {material} {}", channel::of_material(channel))
+        }
+        Call::ReadAll { short: 0 } => "read all".to_string(),
+        Call::ResolvePane(pane) => format!("resolve pane {pane}"),
+        Call::ResolveSrt { material, layer } => format!("resolve srt {material} {layer}"),
+        Call::TextureName { material, slot } => format!("name {material} {slot}"),
+        Call::Cascade { short: 0 } => "cascade".to_string(),
+        Call::NextName(animation) => format!("next {animation}"),
+        Call::ReadAll { .. } | Call::Cascade { .. } => return None,
+    })
+}
+
+fn edit(track: u16, key: u16, request: Request) -> String {
+    match request {
+        Request::Key { frame, value } => {
+            let (frame, value) = (argument(frame), argument(value));
+            format!("key {track} {key} {frame} {value}")
+        }
+        Request::Slope(slope) => format!("slope {track} {key} {}", argument(slope)),
+    }
+}
+
+fn selection(animation: u16) -> String {
+    match animation {
+        NONE => "none".to_string(),
+        number => number.to_string(),
+    }
+}
+
+/// What is written for a call's answer, its last line end included.
+pub fn answer(call: &Call, answer: &Answer, held: &Held) -> Vec<u8> {
+    let mut text = Text::default();
+    match call {
+        Call::ReadAll { .. } => text.say("channels:\n"),
+        Call::Cascade { .. } => text.say("cascade:\n"),
+        _ => {}
+    }
+    match (call, answer.refusal) {
+        (Call::NextName(animation), _) => text.next(*animation, answer, held),
+        (_, 0) => text.told(&answer.told, held),
+        (_, refusal) => text.declined(refusal),
+    }
+    text.0
+}
+
+/// What `player` answers.
+pub fn player(held: &Held) -> Vec<u8> {
+    let p = &held.player;
+    let yes = |flag: bool| if flag { "yes" } else { "no" };
+    let mut text = Text::default();
+    text.say(&format!(
+        "selection {} frame {} playing {} preview {}",
+        selection(p.selection),
+        number(p.frame),
+        yes(p.playing),
+        yes(p.preview)
+    ));
+    text.say(&format!(
+        " reach {} redo {} accepted {} undone {} redone {} standing {}\n",
+        p.reach, p.redo, p.accepted, p.undone, p.redone, p.standing
+    ));
+    text.0
+}
+
+/// What `keys` answers.
+pub fn keys(held: &Held) -> Vec<u8> {
+    let mut text = Text::default();
+    let keys = held.key_bits();
+    text.say("keys:\n");
+    for (track, target) in held.sheet.targets.iter().enumerate() {
+        for (key, at) in target.keys().enumerate() {
+            let [frame, value, slope] = keys.each_ref().map(|array| number(array[at]));
+            let numbers = format!("frame {frame} value {value} slope {slope}");
+            text.say(&format!("track {track} key {key} {numbers}\n"));
+        }
+    }
+    text.0
+}
+
+/// Names need not be text.
+#[derive(Default)]
+struct Text(Vec<u8>);
+
+impl Text {
+    fn say(&mut self, text: &str) {
+        self.0.extend(text.as_bytes());
+    }
+
+    /// A name without the zero bytes at its end. A byte that would break the line
+    /// is shown as a question mark.
+    fn name(&mut self, name: &[u8]) {
+        let end = name.iter().rposition(|&byte| byte != 0);
+        let counted = &name[..end.map_or(0, |last| last + 1)];
+        let plain = counted.iter().map(|&byte| match byte {
+            0..32 | 127 => b'?',
+            byte => byte,
+        });
+        self.0.extend(plain);
+    }
+
+    fn named(&mut self, what: &str, name: &[u8]) {
+        self.say(what);
+        self.name(name);
+    }
+
+    fn declined(&mut self, refusal: u8) {
+        let meaning = MEANINGS[usize::from(refusal) - 1];
+        self.say(&format!("declined {refusal}: {meaning}\n"));
+    }
+
+    /// The name that follows: its row says whether there is one, since a name may
+    /// be empty. From A up row 6 declines.
+    fn next(&mut self, animation: u16, answer: &Answer, held: &Held) {
+        let row = held.sheet.animations.get(usize::from(animation));
+        match (row, &answer.told) {
+            (Some(row), Told::Name(name)) if row.next_present == 1 => {
+                self.named("next ", name);
+                self.say("\n");
+            }
+            (Some(_), _) => self.say("none\n"),
+            (None, _) => self.declined(6),
+        }
+    }
+
+    fn told(&mut self, told: &Told, held: &Held) {
+        match told {
+            Told::Done => self.say("ok\n"),
+            Told::Tick(tick) => self.tick(tick),
+            Told::One(one) => {
+                self.one(*one, held);
+                self.say("\n");
+            }
+            Told::All { marks, numbers } => self.all(marks, numbers, held),
+            Told::Pane {
+                visible,
+                alpha,
+                transform,
+            } => {
+                self.shown(*visible == 1);
+                self.numbers(" alpha", &[*alpha]);
+                self.numbers(" translation", &transform[..3]);
+                self.numbers(" rotation", &transform[3..6]);
+                self.numbers(" scale", &transform[6..8]);
+                self.numbers(" size", &transform[8..]);
+                self.say("\n");
+            }
+            Told::Srt(srt) => {
+                self.numbers("translate", &srt[..2]);
+                self.numbers(" rotate", &srt[2..3]);
+                self.numbers(" scale", &srt[3..]);
+                self.say("\n");
+            }
+            Told::Name(name) => {
+                self.named("name ", name);
+                self.say("\n");
+            }
+            Told::Cascade { visible, alpha, .. } => self.cascade(visible, alpha, held),
+        }
+    }
+
+    fn tick(&mut self, tick: &Tick) {
+        match tick {
+            Tick::Idle => self.say("idle\n"),
+            Tick::Running => self.say("running\n"),
+            Tick::Ended => self.say("ended\n"),
+            Tick::Next(name) => {
+                self.named("ended next ", name);
+                self.say("\n");
+            }
+        }
+    }
+
+    fn shown(&mut self, shown: bool) {
+        self.say(if shown { "shown" } else { "hidden" });
+    }
+
+    fn numbers(&mut self, what: &str, numbers: &[u32]) {
+        self.say(what);
+        for &bits in numbers {
+            self.say(&format!(" {}", number(bits)));
+        }
+    }
+
+    /// A texture row stands with the sheet's name of it.
+    fn one(&mut self, one: One, held: &Held) {
+        match one {
+            One::Nothing => self.say("none"),
+            One::Number(bits) => self.say(&number(bits)),
+            One::Shown(shown) => self.shown(shown),
+            One::Texture(row) => {
+                self.say(&format!("row {row} "));
+                self.name(&held.sheet.textures[usize::from(row)]);
+            }
+            One::Level(level) => self.say(&format!("level {level}")),
+        }
+    }
+
+    /// Every marked channel.
+    fn all(&mut self, marks: &[u8], numbers: &[u32], held: &Held) {
+        let book = good(held);
+        for at in (0..marks.len()).filter(|&at| marks[at] == 1) {
+            let read = Some(f32::from_bits(numbers[at]));
+            match at.checked_sub(PANE_CHANNELS * book.panes.len()) {
+                None => {
+                    let (row, channel) = (at / PANE_CHANNELS, at % PANE_CHANNELS);
+                    self.named("pane ", &book.panes[row].label);
+                    self.say(&format!(" {} ", channel::of_pane(channel as u16)));
+                    self.one(pane_reading(channel, read), held);
+                }
+                Some(at) => {
+                    let (row, channel) = (at / MATERIAL_CHANNELS, at % MATERIAL_CHANNELS);
+                    self.named("material ", &book.materials[row].name);
+                    self.say(&format!(" {} ", channel::of_material(channel as u16)));
+                    self.one(material_reading(channel, read), held);
+                }
+            }
+            self.say("\n");
+        }
+    }
+
+    fn cascade(&mut self, visible: &[u8], alpha: &[u32], held: &Held) {
+        for (row, pane) in good(held).panes.iter().enumerate() {
+            self.named("pane ", &pane.label);
+            self.say(" ");
+            self.shown(visible[row] == 1);
+            self.numbers(" alpha", &alpha[row..=row]);
+            self.say("\n");
+        }
+    }
+}
+
+fn good(held: &Held) -> &Book {
+    &held.book.good.as_ref().expect("a book that is good").rows
+}
+
+/// The refusals in the command line's words, the first being 1.
+const MEANINGS: [&str; 13] = [
+    "the sheet breaks its layout",
+    "the book breaks its layout",
+    "a key array is not as long as the sheet has keys",
+    "the keys break the key rules",
+    "the player's state is broken, or a key is not as the journal left it",
+    "no such animation, or nothing is active",
+    "no such track in the active animation, key, channel, pane, material or layer",
+    "a number is not finite",
+    "the clamped frame is above the next key's",
+    "the curve is not Hermite",
+    "nothing to undo, or to redo",
+    "an angle above 3,600 degrees",
+    "an output is not exactly as long as it must be",
+];
