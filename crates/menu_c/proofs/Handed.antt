@@ -7,7 +7,8 @@ use lib.Dec.{T}
 use lib.ListN.{length, take, drop}
 use lib.Seq.{take-length, drop-length}
 use Rattle.laws.specs.Rows.{Row, numbered, declines, fails, passes, no-rows, stops, held, joined}
-use Rattle.menu_c.specs.Naming.{nameBytes, NameOut, gaveName, nameRows, nameInto}
+use Rattle.field.specs.Name.{nameBytes}
+use Rattle.menu_c.specs.Naming.{NameOut, gaveName, nameRows, nameInto}
 
 module _ (name o : List ℕ) where
   -- the output is not as long as a name

@@ -11,11 +11,11 @@ use Rattle.laws.specs.Rows.{declines, held, first-held}
 use Rattle.laws.specs.Tests.{both}
 use Rattle.laws.specs.declared.Found.{Found}
 use Rattle.laws.specs.declared.Found.the-variants as found
-use Rattle.field.specs.Name.{nameAt}
-use Rattle.sheet.specs.Sizes.{animationCount, texturesAt}
+use Rattle.field.specs.Name.{nameAt, nameBytes}
+use Rattle.sheet.specs.Sizes.{animationBytes, rowName, animationCount, animationsAt, texturesAt}
 use Rattle.sheet.specs.Rows.{nextName, textureName}
 use Rattle.sheet.specs.Checked.{Checked, checked}
-use Rattle.book.specs.Sizes.{materialCount, materialsAt}
+use Rattle.book.specs.Sizes.{materialBytes, materialCount, materialsAt}
 use Rattle.book.specs.Rows.{materialTexture}
 use Rattle.book.specs.Checked.{CheckedBook, checked-book}
 use Rattle.channel.specs.Channel.{slotChannel, ofMaterial}
@@ -31,9 +31,8 @@ use Rattle.menu_readings.specs.Rows.{layerRows, textureNameTable}
 use Rattle.menu.specs.Rows.{nextNameTable}
 use Rattle.menu.specs.Calls.{nextNameOf}
 use Rattle.menu_readings.specs.Readings.{activeIn, textureNameOf}
-use Rattle.menu_c.specs.Naming.{nameBytes}
 
-field-long : (s : List ℕ) (i : ℕ) → i + 24 ≤ length s → length (nameAt s i) ≡ nameBytes
+field-long : (s : List ℕ) (i : ℕ) → i + nameBytes ≤ length s → length (nameAt s i) ≡ nameBytes
 field-long s i h = simp (length-take, length-drop) (omega arith)
 
 -- the name that follows an animation
@@ -43,7 +42,7 @@ next-long s a e =
     let h = held (nextNameTable s a) tt e in
     let w = checked s (h .0) in
     let l = ltb-true a (animationCount s) (h .1 .0) in
-    rw e (field-long s (12 + a * 28 + 4) (omega arith))
+    rw e (field-long s (animationsAt + a * animationBytes + rowName) (omega arith))
 
 -- the texture name of a slot of a checked book, under a checked sheet
 texture-of-long : (s b : List ℕ) (fs vs ss : List Float) (a : Active) (m slot : ℕ) → Checked s → CheckedBook b → m < materialCount b → slot < 3
@@ -52,8 +51,8 @@ unfolding textureOf textureName materialTexture
 texture-of-long s b fs vs ss a m slot w v h k = go (rowIn (reading s b fs vs ss a (ofMaterial b m (slotChannel slot)))) refl
   where
     go : (f : Found) → rowIn (reading s b fs vs ss a (ofMaterial b m (slotChannel slot))) ≡ f → length (nameFor s b fs vs ss a f m slot) ≡ nameBytes
-    go (found.At n) e = let l = named-below s b fs vs ss a (ofMaterial b m (slotChannel slot)) n e in field-long s (texturesAt s + n * 24) (omega arith)
-    go found.Nothing e = field-long b (materialsAt b + m * 156 + 24 + slot * 24) (omega arith)
+    go (found.At n) e = let l = named-below s b fs vs ss a (ofMaterial b m (slotChannel slot)) n e in field-long s (texturesAt s + n * nameBytes) (omega arith)
+    go found.Nothing e = field-long b (materialsAt b + m * materialBytes + nameBytes + slot * nameBytes) (omega arith)
 
 pub texture-long : (s b : List ℕ) (p : Player) (ks : Keys) (m slot : ℕ) → declines (textureNameTable s b p ks m slot) ≡ 0
     → length (textureNameOf s b p ks m slot) ≡ nameBytes

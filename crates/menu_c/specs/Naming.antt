@@ -5,16 +5,13 @@ use mathlib.Core.List.{List, [], _∷_, _++_}
 use lib.Dec.{eqb}
 use lib.ListN.{length}
 use Rattle.laws.specs.Rows.{Row, row, declines}
+use Rattle.field.specs.Name.{nameBytes}
 use Rattle.player.specs.declared.Player.{Player}
 use Rattle.edit.specs.Keys.{Keys}
 use Rattle.menu.specs.Rows.{nextNameTable}
 use Rattle.menu_readings.specs.Rows.{textureNameTable}
 use Rattle.menu.specs.Calls.{nextNameOf}
 use Rattle.menu_readings.specs.Readings.{textureNameOf}
-
--- a name's field (document 01, "Sheet and book")
-abbrev pub nameBytes : ℕ
-nameBytes = 24
 
 -- what a call gives, and leaves in its output
 pub record NameOut : Type 0 where

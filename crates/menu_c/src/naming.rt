@@ -1,4 +1,5 @@
 // Names, which the calls of `menu` hand back as a part of the sheet or of the book, copied into a lent output.
+use field::NAME_BYTES;
 use laws::refusal::ACCEPTED;
 use laws::refusal::NO_ANIMATION;
 use laws::refusal::OUTPUT_LENGTH;
@@ -10,16 +11,14 @@ ghost use Rattle.edit.specs.Keys.{lent};
 ghost use Rattle.laws.specs.Rows.{declines};
 ghost use Rattle.menu.specs.Rows.{nextNameTable};
 ghost use Rattle.menu_readings.specs.Rows.{textureNameTable};
-ghost use Rattle.menu_c.specs.Naming.{nameBytes, gaveName, nameRows, nameInto, nextNameInto, textureNameInto};
-
-// A name's field.
-const NAME: usize = 24;
+ghost use Rattle.field.specs.Name.{nameBytes};
+ghost use Rattle.menu_c.specs.Naming.{gaveName, nameRows, nameInto, nextNameInto, textureNameInto};
 
 fn hand_out(name: &[u8], out: &mut [u8]) -> u8
     requires { ⌜ length (now name) ≡ nameBytes ⌝ }
     ensures { λ r. ⌜ gaveName r (now (out .exit)) ≡ nameInto (nameRows (now (out .entry))) (now (name .entry)) (now (out .entry)) ⌝ }
 {
-    if out.len() != NAME {
+    if out.len() != NAME_BYTES {
         return OUTPUT_LENGTH;
     }
     bytes::copy(name, out);

@@ -14,7 +14,8 @@ use Rattle.player.specs.Player.{freshPlayer}
 use Rattle.edit.specs.Keys.{Keys}
 use Rattle.menu.specs.Calls.{loadedOf, nextNameOf}
 use Rattle.menu_readings.specs.Readings.{noPane, noLayer}
-use Rattle.menu_c.specs.Naming.{nameBytes, nextNameInto, textureNameInto}
+use Rattle.field.specs.Name.{nameBytes}
+use Rattle.menu_c.specs.Naming.{nextNameInto, textureNameInto}
 use Rattle.machine.specs.Asks.{Ask, paneChannel, materialChannel, all, pane, layer, texture, cascade, Told, one, tables, resolvedPane, resolvedLayer, name, cascaded}
 use Rattle.machine.specs.Calls.{Call, play, pose, tick, edit, undo, redo, ask, Answer, number, ticked, told, State, stepP}
 use Rattle.refusals.specs.Outward.{Outward, made, load, nextName, nextNameOut, textureNameOut, uvs, corners, translate, rotatePoint}
