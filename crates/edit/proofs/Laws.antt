@@ -4,11 +4,10 @@ use mathlib.Core.Path.{_≡_, _∙_, ap}
 use mathlib.Core.Bool.{Bool, true, false, not, _&&_}
 use mathlib.Core.List.{List}
 use native.Mathlib.Omega.{arith}
-use borrow.Author.Tests.{ltb-true, ne-eqb}
+use borrow.Author.Tests.{ne-eqb}
 use lib.Dec.{eqb}
 use lib.ListN.{getD}
 use lib.Ieee.{Float, nan, lt}
-use Rattle.laws.specs.Tests.{and-1}
 use Rattle.sheet.specs.Sizes.{targetCount}
 use Rattle.sheet.specs.Rows.{targetRow}
 use Rattle.sheet.specs.Checked.{Checked, target-keys}
@@ -20,12 +19,7 @@ use Rattle.edit.specs.declared.request.Request.{Request}
 use Rattle.edit.specs.declared.request.Request.the-variants as request
 use Rattle.edit.specs.declared.spot.Spot.{Spot}
 use Rattle.edit.specs.Keys.{keys, keyAt}
-use Rattle.edit.specs.Edit.{hasKey, editedFrame, editedValue, editedAt, clampedFrame, overtakes}
-
--- a key that the sheet has is on one of its tracks
-pub has-track : (s : List ℕ) (track key : ℕ) → hasKey s track key ≡ true → track < targetCount s
-unfolding hasKey
-has-track s track key e = ltb-true track (targetCount s) (and-1 _ _ e)
+use Rattle.edit.specs.Edit.{editedFrame, editedValue, editedAt, clampedFrame, overtakes}
 
 -- the place of a key fits, since a checked sheet has few keys
 pub spot-fits : {s : List ℕ} → Checked s → (track key : ℕ) (row : Target) → track < targetCount s → row ≡ targetRow s track → key < 65536 → row .first + key < 2 ^ 64

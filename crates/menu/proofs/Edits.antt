@@ -1,27 +1,27 @@
 -- What follows from an edit's refusal, and what `editOf` is on each side of it. Assumes nothing.
-use Prim.Native.Nat.{ℕ, _+_, _<_}
+use Prim.Native.Nat.{ℕ, _<_}
 use mathlib.Core.Path.{_≡_, sym, _∙_}
 use mathlib.Core.Bool.{true, false, not}
 use mathlib.Core.List.{List}
 use native.Mathlib.Omega.{arith}
-use borrow.Author.Tests.{ltb-true, ne-eqb}
-use lib.Dec.{eqb, ltb}
-use lib.ListN.{length, set}
+use borrow.Author.Tests.{ne-eqb}
+use lib.Dec.{eqb}
+use lib.ListN.{set}
 use lib.Ieee.{Float}
 use Rattle.laws.specs.Rows.{declines, first-held}
-use Rattle.laws.specs.Tests.{and-1, and-2}
-use Rattle.sheet.specs.Sizes.{targetCount, keyCount}
-use Rattle.sheet.specs.Rows.{targetRow}
-use Rattle.sheet.specs.Checked.{Checked, target-keys}
+use Rattle.laws.specs.Tests.{and-1}
+use Rattle.sheet.specs.Sizes.{targetCount}
+use Rattle.sheet.specs.Checked.{Checked}
 use Rattle.curve.specs.declared.Key.{Key}
 use Rattle.curve.specs.Keys as curve
 use Rattle.player.specs.declared.Player.{Player}
 use Rattle.edit.specs.declared.request.Request.{Request}
 use Rattle.edit.specs.declared.spot.Spot.{Spot}
 use Rattle.edit.specs.Keys.{keys, keyAt, putKey}
-use Rattle.edit.specs.Edit.{none, hasKey, place, spotOf, editedAt, edited, requestRows, keyIn}
+use Rattle.edit.specs.Edit.{none, hasKey, spotOf, editedAt, edited, requestRows, keyIn}
+use Rattle.edit.specs.Put.{has-key, spot-inside}
 use Rattle.edit.specs.Accepted.{accepted-key}
-use Rattle.edit.specs.Spot.{Inside, InsideAll}
+use Rattle.edit.specs.Spot.{InsideAll}
 use Rattle.player.specs.Counts.{CanEdit}
 use Rattle.player.specs.Edited.{editedPlayer}
 use Rattle.menu_checks.specs.Rows.{stateRows}
@@ -29,27 +29,7 @@ use Rattle.menu.specs.Rows.{editTable}
 use Rattle.menu.specs.Calls.{gave, entryFor, editOf}
 use Rattle.menu_checks.specs.Checks.{state-ready}
 
--- a key that the sheet has, over key arrays as long as the sheet says: it and its neighbours are inside
-pub inside-all : {s : List ℕ} {fs vs ss : List Float} (track key : ℕ) → Checked s → length fs ≡ keyCount s → length vs ≡ keyCount s → length ss ≡ keyCount s
-    → hasKey s track key ≡ true → InsideAll fs vs ss (spotOf s track key)
-unfolding hasKey spotOf place
-inside-all {s} {fs} {vs} {ss} track key w f v z h =
-    let t = ltb-true track (targetCount s) (and-1 (ltb track (targetCount s)) (ltb key (targetRow s track .count)) h) in
-    let k = ltb-true key (targetRow s track .count) (and-2 (ltb track (targetCount s)) (ltb key (targetRow s track .count)) h) in
-    let m = target-keys w track t in
-    record {
-      frames = record { here = omega arith; before = omega arith; after = λ e. omega (arith, ltb-true (key + 1) (targetRow s track .count) e) };
-      values = omega arith;
-      slopes = omega arith;
-    }
-
-pub inside-frames : {s : List ℕ} {fs : List Float} (track key : ℕ) → Checked s → length fs ≡ keyCount s → hasKey s track key ≡ true → Inside fs (spotOf s track key)
-inside-frames {fs = fs} track key w f h = inside-all {vs = fs} {ss = fs} track key w f f f h .frames
-
-pub has-track : (s : List ℕ) (track key : ℕ) → hasKey s track key ≡ true → track < targetCount s
-unfolding hasKey
-has-track s track key e = ltb-true track (targetCount s) (and-1 (ltb track (targetCount s)) (ltb key (targetRow s track .count)) e)
-
+-- a track's key that the animation has, the sheet has
 pub in-has : (s : List ℕ) (a track key : ℕ) → keyIn s a track key ≡ true → hasKey s track key ≡ true
 unfolding keyIn
 in-has s a track key e = and-1 (hasKey s track key) _ e
@@ -67,11 +47,12 @@ module _ (s : List ℕ) (p : Player) (fs vs ss : List Float) (track key : ℕ) (
   allowed z =
       let w = state-ready s p fs vs ss _ e z in
       let h = accepted-key s (p .selection) (keys fs vs ss) track key r (first-held (stateRows s p (keys fs vs ss)) _ tt (sym e ∙ z) .1) .0 in
+      let k = has-key s track key h in
       let c = w .player .counts in
       record {
         sheet = w .sheet;
-        on = has-track s track key h;
-        inside = inside-all track key (w .sheet) (w .frames) (w .values) (w .slopes) h;
+        on = k .0;
+        inside = spot-inside (w .sheet) (keys fs vs ss) (w .rules) track key (k .0) (k .1);
         counts = record { reach = omega arith; accepted = c .accepts; standing = c .stands };
       }
 

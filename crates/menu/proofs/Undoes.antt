@@ -9,12 +9,14 @@ use lib.Dec.{eqb}
 use lib.ListN.{set}
 use lib.Ieee.{Float}
 use Rattle.laws.specs.Rows.{declines, held, first-held}
+use Rattle.laws.specs.Tests.{is-zero, is-not-zero}
 use Rattle.sheet.specs.Sizes.{targetCount}
 use Rattle.sheet.specs.Checked.{Checked}
 use Rattle.edit.specs.declared.spot.Spot.{Spot}
 use Rattle.edit.specs.Keys.{Keys, keys, putKey}
 use Rattle.edit.specs.Edit.{spotOf}
 use Rattle.edit.specs.Spot.{InsideAll}
+use Rattle.edit.specs.Put.{has-key, spot-inside}
 use Rattle.player.specs.declared.Player.{Player}
 use Rattle.player.specs.declared.journal.Entry.{Entry}
 use Rattle.player.specs.declared.undo.Way.{Way}
@@ -28,7 +30,6 @@ use Rattle.menu_checks.specs.Rows.{stateRows}
 use Rattle.menu_checks.specs.Checks.{StateReady, state-ready}
 use Rattle.menu.specs.Rows.{takeTable}
 use Rattle.menu.specs.Calls.{gave, takeOf}
-use Rattle.menu.proofs.Edits.{inside-all, has-track}
 
 -- what a call that takes an entry back or makes it again has
 pub record Taken (s : List ℕ) (fs vs ss : List Float) (e : Entry) : Type 0 where
@@ -37,7 +38,9 @@ pub record Taken (s : List ℕ) (fs vs ss : List Float) (e : Entry) : Type 0 whe
   pub inside : InsideAll fs vs ss (spotOf s (e .track) (e .key))
 
 pub taken : {s : List ℕ} {p : Player} {fs vs ss : List Float} → StateReady s p (keys fs vs ss) → (e : Entry) → entryOk s e ≡ true → Taken s fs vs ss e
-taken w e h = record { sheet = w .sheet; on = has-track _ (e .track) (e .key) h; inside = inside-all (e .track) (e .key) (w .sheet) (w .frames) (w .values) (w .slopes) h }
+taken {fs = fs} {vs} {ss} w e h =
+    let k = has-key _ (e .track) (e .key) h in
+    record { sheet = w .sheet; on = k .0; inside = spot-inside (w .sheet) (keys fs vs ss) (w .rules) (e .track) (e .key) (k .0) (k .1) }
 
 -- the counts allow it
 pub can-take : {s : List ℕ} {p : Player} → Sound s p → (way : Way) → (entries way p ≡ 0 → ⊥) → CanTake way p
@@ -77,10 +80,10 @@ module _ (s : List ℕ) (p : Player) (way : Way) (fs vs ss : List Float) (n : �
 
 -- whether an entry is left, over a number that a call gave
 pub none-left : {n m : ℕ} → n ≡ m → n ≡ 0 → not (eqb m 0) ≡ false
-none-left e z = rw (← e, z)
+none-left {n} {m} e z = is-zero m (sym e ∙ z)
 
 pub some-left : {n m : ℕ} → n ≡ m → (n ≡ 0 → ⊥) → not (eqb m 0) ≡ true
-some-left {n} e d = rw (← e, ne-eqb n 0 d)
+some-left {n} {m} e d = is-not-zero m (λ z. d (e ∙ z))
 
 -- and whether it may be taken, likewise
 module _ (s : List ℕ) (p : Player) (ks : Keys) (way : Way) (n : ℕ) (e : Entry) {b : Bool} (r : b ≡ takeFits s ks n e) (q : n ≡ entries way p) (h : e ≡ entryOf way p) where

@@ -3,7 +3,7 @@ use borrow.Author.Tests.{eq-eqb, ne-eqb, lt-ltb, le-ltb, not-true, not-false}
 use Rattle.edit.specs.Edit.{keyIn}
 use Rattle.laws.specs.Tests.{no, yes}
 use Rattle.sheet.specs.Checked.{target-content}
-use Rattle.edit.proofs.Laws.{has-track}
+use Rattle.edit.specs.Put.{has-key}
 use borrow.Author.Needs.{needs}
 use Rattle.edit.proofs.spot.key_in.Statement.{statement}
 use Rattle.edit.proofs.spot.key_in.Tie as tie
@@ -16,13 +16,13 @@ unfolding keyIn
 returns c = rw (no (c .before .has-key .ensures) (c .if1 .taken))
 
 target-row-requires : tie.Need-target-row-requires
-target-row-requires c κs = (c .before .before .before .pre, has-track _ _ _ (yes (c .before .has-key .ensures) (c .if1 .left)))
+target-row-requires c κs = (c .before .before .before .pre, (has-key _ _ _ (yes (c .before .has-key .ensures) (c .if1 .left)) .0))
 
 content-row-requires : tie.Need-content-row-requires
 content-row-requires c κs =
     let at-has-key = c .before .before in
     let at-pre = at-has-key .before .before in
-    (at-pre .pre, rw (c .target-row .ensures) (target-content (at-pre .pre) _ (has-track _ _ _ (yes (at-has-key .has-key .ensures) (c .before .if1 .left)))))
+    (at-pre .pre, rw (c .target-row .ensures) (target-content (at-pre .pre) _ ((has-key _ _ _ (yes (at-has-key .has-key .ensures) (c .before .if1 .left)) .0))))
 
 returns-2 : tie.Need-returns-2
 unfolding keyIn

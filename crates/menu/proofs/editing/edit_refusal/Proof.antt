@@ -1,9 +1,10 @@
 -- `edit_refusal` answers the first row of `editTable` that does not hold.
 use Rattle.menu.specs.Rows.{editTable}
 use Rattle.edit.specs.Edit.{editRows}
+use Rattle.edit.specs.Put.{has-key, spot-inside}
 use Rattle.laws.specs.Tests.{yes}
 use Rattle.menu_checks.specs.Checks.{state-ready, after-state}
-use Rattle.menu.proofs.Edits.{has-track, in-has, inside-frames, is-none, not-none, request-at}
+use Rattle.menu.proofs.Edits.{in-has, is-none, not-none, request-at}
 use borrow.Author.Needs.{needs}
 use Rattle.menu.proofs.editing.edit_refusal.Statement.{statement}
 use Rattle.menu.proofs.editing.edit_refusal.Tie as tie
@@ -29,13 +30,14 @@ returns-3 c = search (after-state, is-none, not-none)
 spot-of-requires : tie.Need-spot-of-requires
 spot-of-requires c κs =
     let a = c .before .before .before .before in
-    (state-ready _ _ _ _ _ _ (a .before .check-state .ensures) (a .if1 .left) .sheet, has-track _ _ _ (in-has _ _ _ _ (yes (c .before .key-in .ensures) (c .if3 .left))))
+    (state-ready _ _ _ _ _ _ (a .before .check-state .ensures) (a .if1 .left) .sheet, has-key _ _ _ (in-has _ _ _ _ (yes (c .before .key-in .ensures) (c .if3 .left))) .0)
 
 request-refusal-requires : tie.Need-request-refusal-requires
 request-refusal-requires c κs =
     let a = c .before .before .before .before .before in
     let w = state-ready _ _ _ _ _ _ (a .before .check-state .ensures) (a .if1 .left) in
-    rw (c .spot-of .ensures) (inside-frames _ _ (w .sheet) (w .frames) (in-has _ _ _ _ (yes (c .before .before .key-in .ensures) (c .before .if3 .left))))
+    let k = has-key _ _ _ (in-has _ _ _ _ (yes (c .before .before .key-in .ensures) (c .before .if3 .left))) in
+    rw (c .spot-of .ensures) (spot-inside (w .sheet) _ (w .rules) _ _ (k .0) (k .1) .frames)
 
 returns-4 : tie.Need-returns-4
 unfolding editTable editRows
