@@ -4,8 +4,8 @@
  *
  * A sheet holds the animations, a book the panes and materials that they move. A slice is a pointer and a length in
  * elements. A call asks only that a pointer has that many elements (any pointer will do for none), and that no output
- * overlaps another argument. It answers a refusal, 0 for none: the first that applies, in the table's order. On a refusal
- * nothing that was lent has changed, the player comes back as it was, and other answers are 0.
+ * overlaps another argument. It answers a refusal, 0 for none: the first that applies, in the order of the call's comment.
+ * On a refusal nothing that was lent has changed, the player comes back as it was, and other answers are 0.
  */
 #ifndef MENU_H
 #define MENU_H
@@ -33,7 +33,8 @@ enum menu_refusal {
     MENU_NOT_HERMITE = 10,       /* slope edit, curve not Hermite */
     MENU_NOTHING_TO_RETURN = 11, /* nothing to undo, or to redo */
     MENU_ANGLE = 12,             /* an angle above 3,600 degrees in size */
-    MENU_OUTPUT_LENGTH = 13      /* outputs not exactly as long */
+    MENU_OUTPUT_LENGTH = 13,     /* outputs not exactly as long */
+    MENU_SAVE_LENGTH = 14        /* the buffer is not as long as the sheet */
 };
 
 /* ---- lengths and numbers */
@@ -181,6 +182,12 @@ menu_played menu_undo(menu_player player, const uint8_t *sheet, size_t sheet_len
 /* Makes the edit that was undone last again. Refusals 1, 3 to 5, 11. */
 menu_played menu_redo(menu_player player, const uint8_t *sheet, size_t sheet_len, float *frames, size_t frames_len,
                       float *values, size_t values_len, float *slopes, size_t slopes_len);
+
+/* The sheet with the keys as they are now, into a buffer as long as the sheet: everything but the two key arrays is
+ * copied. Refusals 1, 3 to 5, 14. */
+uint8_t menu_save(menu_player player, const uint8_t *sheet, size_t sheet_len, const float *frames, size_t frames_len,
+                  const float *values, size_t values_len, const float *slopes, size_t slopes_len, uint8_t *out,
+                  size_t out_len);
 
 /* ---- readings: what the active animation makes of the book's panes and materials */
 

@@ -15,7 +15,10 @@
 //!     println!("frame {}: {:?}", player.frame(), logo.transform.translation);
 //! }
 //! player.key_edit(&sheet, &mut keys, 3, 1, 6.0, 20.0)?;
+//! let edited = player.save(&sheet, &keys)?;
+//! assert_eq!(Player::load(&edited)?.1, keys);
 //! player.undo(&sheet, &mut keys)?;
+//! assert_eq!(player.save(&sheet, &keys)?, sheet);
 //! # Ok::<(), dovebolt::Refusal>(())
 //! ```
 

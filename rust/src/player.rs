@@ -472,4 +472,73 @@ impl Player {
         let answer = on_keys!(raw::menu_redo, self.raw, sheet, keys);
         self.take(answer)
     }
+
+    /// The sheet with the keys as they are now: everything but its two key arrays is copied. While no edit stands, these
+    /// are the bytes that were loaded; [`Player::load`] of what was saved gives the keys that are held. Refusals 1, 3 to 5.
+    ///
+    /// ```
+    /// use dovebolt::{Player, example};
+    ///
+    /// let sheet = example::sheet();
+    /// let (mut player, mut keys) = Player::load(&sheet)?;
+    /// player.pose(&sheet, Some(0), 0.0)?;
+    /// player.key_edit(&sheet, &mut keys, 3, 1, 6.0, 20.0)?;
+    /// let saved = player.save(&sheet, &keys)?;
+    ///
+    /// let (_, again) = Player::load(&saved)?;
+    /// assert_eq!((again.frames[6], again.values[6]), (6.0, 20.0));
+    /// assert_eq!(again, keys);
+    ///
+    /// player.undo(&sheet, &mut keys)?;
+    /// assert_eq!(player.save(&sheet, &keys)?, sheet);
+    /// # Ok::<(), dovebolt::Refusal>(())
+    /// ```
+    pub fn save(&self, sheet: &[u8], keys: &Keys) -> Result<Vec<u8>, Refusal> {
+        let mut out = vec![0; sheet.len()];
+        self.save_into(sheet, keys, &mut out)?;
+        Ok(out)
+    }
+
+    /// The same into a lent buffer, which must be as long as the sheet. Refusals 1, 3 to 5, 14.
+    ///
+    /// ```
+    /// use dovebolt::{Player, Refusal, example};
+    ///
+    /// let sheet = example::sheet();
+    /// let (mut player, mut keys) = Player::load(&sheet)?;
+    /// player.pose(&sheet, Some(0), 0.0)?;
+    /// player.key_edit(&sheet, &mut keys, 3, 1, 6.0, 20.0)?;
+    /// let mut out = vec![0; sheet.len()];
+    /// player.save_into(&sheet, &keys, &mut out)?;
+    /// assert_eq!(Player::load(&out)?.1, keys);
+    ///
+    /// player.undo(&sheet, &mut keys)?;
+    /// player.save_into(&sheet, &keys, &mut out)?;
+    /// assert_eq!(out, sheet);
+    /// assert_eq!(player.save_into(&sheet, &keys, &mut out[1..]), Err(Refusal::SaveLength));
+    /// # Ok::<(), dovebolt::Refusal>(())
+    /// ```
+    pub fn save_into(&self, sheet: &[u8], keys: &Keys, out: &mut [u8]) -> Result<(), Refusal> {
+        let Keys {
+            frames,
+            values,
+            slopes,
+        } = keys;
+        // SAFETY: each pointer has the length of its slice, and `out` is lent alone.
+        checked(unsafe {
+            raw::menu_save(
+                self.raw,
+                sheet.as_ptr(),
+                sheet.len(),
+                frames.as_ptr(),
+                frames.len(),
+                values.as_ptr(),
+                values.len(),
+                slopes.as_ptr(),
+                slopes.len(),
+                out.as_mut_ptr(),
+                out.len(),
+            )
+        })
+    }
 }

@@ -230,6 +230,19 @@ unsafe extern "C" {
         slopes: *mut f32,
         slopes_len: usize,
     ) -> Played;
+    pub fn menu_save(
+        player: Player,
+        sheet: *const u8,
+        sheet_len: usize,
+        frames: *const f32,
+        frames_len: usize,
+        values: *const f32,
+        values_len: usize,
+        slopes: *const f32,
+        slopes_len: usize,
+        out: *mut u8,
+        out_len: usize,
+    ) -> u8;
     pub fn menu_read_pane(
         player: Player,
         sheet: *const u8,

@@ -1,6 +1,6 @@
 use std::fmt;
 
-/// The table: a name, a number and the scope paper's words for each refusal.
+/// The table: a name, a number and the scope papers' words for each refusal.
 macro_rules! refusals {
     ($(#[$about:meta])* $($name:ident = $number:literal, $words:literal;)*) => {
         $(#[$about])*
@@ -12,7 +12,7 @@ macro_rules! refusals {
 
         impl Refusal {
             /// Every refusal, by rising number.
-            pub const ALL: [Refusal; 13] = [$(Refusal::$name),*];
+            pub const ALL: [Refusal; 14] = [$(Refusal::$name),*];
 
             fn words(self) -> &'static str {
                 match self {
@@ -24,7 +24,8 @@ macro_rules! refusals {
 }
 
 refusals! {
-    /// Why a call was declined. Nothing that was lent has changed.
+    /// Why a call was declined: the first that applies, in the order in which the call's documentation lists them.
+    /// Nothing that was lent has changed.
     ///
     /// ```
     /// use dovebolt::{Player, Refusal};
@@ -51,16 +52,17 @@ refusals! {
     NothingToReturn = 11, "undo with reach 0; redo with an empty redo list";
     Angle = 12, "an angle above 3,600 degrees in size";
     OutputLength = 13, "outputs not exactly as long";
+    SaveLength = 14, "the buffer is not as long as the sheet";
 }
 
 impl Refusal {
-    /// The refusal of this number, which is 1 to 13.
+    /// The refusal of this number, which is 1 to 14.
     ///
     /// ```
     /// use dovebolt::Refusal;
     ///
     /// assert_eq!(Refusal::from_number(12), Some(Refusal::Angle));
-    /// assert_eq!(Refusal::from_number(14), None);
+    /// assert_eq!(Refusal::from_number(15), None);
     /// ```
     pub fn from_number(number: u8) -> Option<Refusal> {
         let row = usize::from(number).checked_sub(1)?;
@@ -87,10 +89,10 @@ impl fmt::Display for Refusal {
 
 impl std::error::Error for Refusal {}
 
-/// What the number that a call came back with means. The contracts allow 0 to 13.
+/// What the number that a call came back with means. The contracts allow 0 to 14.
 pub(crate) fn checked(number: u8) -> Result<(), Refusal> {
     if number == 0 {
         return Ok(());
     }
-    Err(Refusal::from_number(number).expect("a refusal's number is 1 to 13"))
+    Err(Refusal::from_number(number).expect("a refusal's number is 1 to 14"))
 }

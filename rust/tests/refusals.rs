@@ -6,7 +6,7 @@ use dovebolt::{Keys, Player, Refusal, Vector2f, Vector3f, corners, example, uvs_
 type Call = fn(&mut Player, &[u8], &mut Keys) -> Result<(), Refusal>;
 
 /// One call for each refusal, on a player that holds animation 0 at frame 2 and has one edit to undo.
-const CALLS: [(Refusal, Call); 13] = [
+const CALLS: [(Refusal, Call); 14] = [
     (Refusal::Sheet, |p, _, _| p.play(b"no sheet", Some(0))),
     (Refusal::Book, |p, s, k| {
         p.read_all(s, b"no book", k).map(drop)
@@ -49,6 +49,7 @@ const CALLS: [(Refusal, Call); 13] = [
     (Refusal::OutputLength, |_, _, _| {
         uvs_into(&[], &[], &mut [0.0; 23])
     }),
+    (Refusal::SaveLength, |p, s, k| p.save_into(s, k, &mut [])),
 ];
 
 #[test]
@@ -65,9 +66,9 @@ fn each_is_reached_and_changes_nothing() {
 }
 
 #[test]
-fn numbers_go_from_1_to_13() {
+fn numbers_go_from_1_to_14() {
     let numbers: Vec<u8> = Refusal::ALL.iter().map(|r| r.number()).collect();
-    assert_eq!(numbers, (1..=13).collect::<Vec<u8>>());
+    assert_eq!(numbers, (1..=14).collect::<Vec<u8>>());
     for refusal in Refusal::ALL {
         assert_eq!(Refusal::from_number(refusal.number()), Some(refusal));
         assert!(
@@ -77,7 +78,7 @@ fn numbers_go_from_1_to_13() {
         );
     }
     assert_eq!(
-        (Refusal::from_number(0), Refusal::from_number(14)),
+        (Refusal::from_number(0), Refusal::from_number(15)),
         (None, None)
     );
 }
@@ -118,4 +119,34 @@ fn outputs_of_any_length_are_answered() {
     assert_eq!(declined, Err(Refusal::OutputLength));
     let declined = player.read_all_into(&sheet, &book, &keys, &mut [9; 86], &mut [9.0; 85]);
     assert_eq!(declined, Err(Refusal::OutputLength));
+}
+
+/// Saving into buffers of these lengths is declined, and leaves them as they were.
+fn declined(player: &Player, sheet: &[u8], keys: &Keys, lengths: &[usize], expected: Refusal) {
+    for &length in lengths {
+        let mut out = vec![7; length];
+        assert_eq!(player.save_into(sheet, keys, &mut out), Err(expected));
+        assert_eq!(out, vec![7; length], "after {expected}");
+    }
+}
+
+#[test]
+fn saving_looks_at_the_buffer_last() {
+    let sheet = example::sheet();
+    let (player, keys) = Player::load(&sheet).unwrap();
+    let others = [0, sheet.len() - 1, sheet.len() + 1];
+    declined(&player, &sheet, &keys, &others, Refusal::SaveLength);
+
+    let any = [0, sheet.len() - 1, sheet.len(), sheet.len() + 1];
+    let mut state = *player.as_raw();
+    state.frame = f32::NAN;
+    let broken = Player::from_raw(state);
+    declined(&broken, &sheet, &keys, &any, Refusal::State);
+    let mut falling = keys.clone();
+    falling.frames[6] = -1.0;
+    declined(&broken, &sheet, &falling, &any, Refusal::KeyRules);
+    falling.values.push(0.0);
+    declined(&broken, &sheet, &falling, &any, Refusal::KeyLengths);
+    let short = &sheet[1..];
+    declined(&broken, short, &falling, &any, Refusal::Sheet);
 }

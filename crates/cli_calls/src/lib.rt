@@ -20,6 +20,7 @@ pub use verb::READ_PANE;
 pub use verb::REDO;
 pub use verb::RESOLVE_PANE;
 pub use verb::RESOLVE_SRT;
+pub use verb::SAVE;
 pub use verb::SLOPE;
 pub use verb::TICK;
 pub use verb::UNDO;

@@ -40,7 +40,9 @@ pub const KEYS: u8 = 16;
 
 pub const PLAYER: u8 = 17;
 
-pub const NO_VERB: u8 = 18;
+pub const SAVE: u8 = 18;
+
+pub const NO_VERB: u8 = 19;
 
 // A verb's arguments begin at word `from`: so many whole numbers, then so many numbers.
 pub struct Verb {
@@ -62,7 +64,7 @@ fn one(code: u8, wholes: usize, numbers: usize) -> Verb
     }
 }
 
-// A verb of two words.
+// A verb of two words. The second of `save` is a file's name, and may be missing.
 fn two(code: u8, wholes: usize) -> Verb
     requires { ⌜ wholes ≤ 2 ⌝ }
     ensures { λ r. ⌜ Few r ⌝ }
@@ -104,7 +106,7 @@ fn resolve_verb(line: &[u8]) -> Verb
     one(NO_VERB, 0, 0)
 }
 
-// The verbs that show something.
+// The verbs that change nothing.
 fn showing_verb(line: &[u8]) -> Verb
     ensures { λ r. ⌜ Few r ⌝ }
 {
@@ -129,6 +131,9 @@ fn showing_verb(line: &[u8]) -> Verb
     }
     if same(w, b"player") {
         return one(PLAYER, 0, 0);
+    }
+    if same(w, b"save") {
+        return two(SAVE, 0);
     }
     one(NO_VERB, 0, 0)
 }

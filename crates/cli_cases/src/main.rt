@@ -1,5 +1,6 @@
-// First mistakes, and files of every kind, on the command line: each case with a heading, and what it is answered.
+// First mistakes, files of every kind, and a sheet that is saved, on the command line: each case with a heading, and what it is answered.
 use cli_printed::say;
+use libc::STDIN_FILENO;
 
 fn say_word(line: &[u8], i: usize) {
     let word = cli_words::line(line, i);
@@ -20,11 +21,22 @@ fn heading(line: &[u8]) {
     say_word(line, 5);
     say_word(line, 6);
     say_word(line, 7);
-    say(b"\n");
 }
 
 fn case(line: &[u8]) {
     heading(line);
+    say(b"\n");
+    cli_console::run(line);
+}
+
+// A case with a list of calls in the place of standard input: a file is opened by the lowest number that is free, as a shell's `<` has it.
+fn list(line: &[u8], calls: &[u8]) {
+    heading(line);
+    say(b" < ");
+    say(calls);
+    say(b"\n");
+    libc::close(STDIN_FILENO);
+    os::open_read(calls);
     cli_console::run(line);
 }
 
@@ -79,10 +91,18 @@ fn frame_cases() {
     case(b"replay\ntitle.sheet\ntitle.book\n0");
 }
 
+// An edited sheet is saved, checked, and loaded again. A program is run in a folder of its own, so that the file stays in no other.
+fn save_cases() {
+    list(b"replay\ntitle.sheet\ntitle.book", b"edit.calls");
+    case(b"check\nedited.sheet");
+    list(b"replay\nedited.sheet\ntitle.book", b"again.calls");
+}
+
 fn main() {
     usage_cases();
     check_cases();
     file_cases();
     number_cases();
     frame_cases();
+    save_cases();
 }

@@ -36,3 +36,21 @@ pub fn read(path: &[u8], buf: &mut [u8]) -> usize
     }
     n
 }
+
+// Writes a whole file, which is made or emptied first. Where it can't, it says why in a line and answers false: what is written may be a part then.
+pub fn write(path: &[u8], bytes: &[u8]) -> bool {
+    let fd = os::open_overwrite(path);
+    if fd < 0 {
+        say(b"error: ");
+        complain(path, b"cannot be opened for writing");
+        return false;
+    }
+    let written = io::write_all(fd, bytes);
+    let closed = libc::close(fd) == 0;
+    if written & closed {
+        return true;
+    }
+    say(b"error: ");
+    complain(path, b"cannot be written whole");
+    false
+}

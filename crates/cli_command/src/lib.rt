@@ -9,6 +9,7 @@ pub use arguments::join;
 pub use arguments::quiet;
 pub use file::LONGEST;
 pub use file::read;
+pub use file::write;
 pub use span::Span;
 pub use span::span_of;
 pub use span::whole_argument;

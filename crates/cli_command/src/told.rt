@@ -19,7 +19,7 @@ pub fn usage() {
         b"    read pane P CHANNEL, read material M CHANNEL, read all, resolve pane P, resolve srt M LAYER, name M SLOT,\n",
     );
     say(
-        b"    next A, cascade, keys, player; A may be none, CHANNEL a name or a number; # begins a comment\n",
+        b"    next A, cascade, keys, player, save [FILE]; A may be none, CHANNEL a name or a number; # begins a comment\n",
     );
     say(b"menu_cli help\n");
     say(b"--quiet, anywhere: no progress on standard error\n");

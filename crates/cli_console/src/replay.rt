@@ -72,6 +72,10 @@ fn answer_line<'a>(
         say_unread(line, number, c);
         return p;
     }
+    if c.verb == cli_calls::SAVE {
+        cli_saved::save(p, s, frames, values, slopes, cli_words::word(line, 1));
+        return p;
+    }
     cli_answers::answer(p, c, s, b, frames, values, slopes)
 }
 

@@ -1,4 +1,4 @@
-// The refusals of document 01's table, in words.
+// The refusals of document 01's table, and of what document 02 adds to it, in words.
 use crate::text::say;
 use crate::text::say_count;
 
@@ -17,6 +17,7 @@ fn say_meaning(n: u8) {
         11 => say(b"nothing to undo, or to redo"),
         12 => say(b"an angle above 3,600 degrees"),
         13 => say(b"an output is not exactly as long as it must be"),
+        14 => say(b"the buffer is not as long as the sheet"),
         _ => say(b"no refusal of the table"),
     }
 }

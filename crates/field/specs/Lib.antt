@@ -4,3 +4,4 @@ pub mod Name
 pub mod Same
 pub mod Table
 pub mod Word
+pub mod Write

@@ -1,4 +1,4 @@
-// Fields of a lent slice of bytes: little-endian numbers, finite floats, and names of 24 bytes.
+// Fields of a lent slice of bytes: little-endian numbers, finite floats, which are also written, and names of 24 bytes.
 use laws::Found;
 ghost use mathlib.Core.Path.{_≡_};
 ghost use mathlib.Core.Bool.{true};
@@ -7,6 +7,8 @@ ghost use lib.ListN.{length};
 ghost use Rattle.field.specs.Read.{byteAt, u16At, u32At, floatAt, finiteAt, finiteRow};
 ghost use Rattle.field.specs.Name.{nameBytes, nameAt, sameName, zeroByte, emptyName, otherName, nameOk, namesOk, findName, Fields};
 ghost use Rattle.field.specs.Word.{wordAt};
+ghost use Rattle.field.specs.Write.{putFloat};
+ghost use Rattle.float.specs.Numbers.{finite};
 ghost use Rattle.laws.specs.Below.{allBelow};
 
 fn wide(x: u8) -> usize
@@ -51,6 +53,18 @@ pub fn f32_at(s: &[u8], at: usize) -> f32
     ensures { λ r. ⌜ r ≡ floatAt (now (s .entry)) at ⌝ }
 {
     f32::from_bits(u32_at(s, at))
+}
+
+// Writes a finite f32.
+pub fn put_f32(out: &mut [u8], at: usize, x: f32)
+    requires { ⌜ (at + 3 < length (now out)) × (finite x ≡ true) ⌝ }
+    ensures { λ _. ⌜ now (out .exit) ≡ putFloat (now (out .entry)) at x ⌝ }
+{
+    let n = f32::to_bits(x);
+    out[at] = (n % 256) as u8;
+    out[at + 1] = (n / 256 % 256) as u8;
+    out[at + 2] = (n / 256 / 256 % 256) as u8;
+    out[at + 3] = (n / 256 / 256 / 256 % 256) as u8;
 }
 
 // Whether n f32s in a row are finite. No early way out: the loop then goes several at a time.

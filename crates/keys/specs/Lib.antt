@@ -2,6 +2,7 @@
 pub mod Rules
 pub mod Keys
 pub mod Checked
+pub mod Alike
 pub mod Stored
 pub mod Load
 pub mod Loading

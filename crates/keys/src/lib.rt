@@ -9,3 +9,5 @@ pub use load::load_refusal;
 pub use rules::curve_ok;
 pub use rules::key_rule;
 pub use rules::keys_ok;
+pub use stored::frames_at;
+pub use stored::points_at;

@@ -1,4 +1,5 @@
-// Why a call is declined: the numbers of document 01's table "What a call declines", each the number of its row. 0 declines nothing.
+// Why a call is declined: the numbers of document 01's table "What a call declines", each the number of its row, with those that document 02's
+// requests add to it. 0 declines nothing.
 pub const ACCEPTED: u8 = 0;
 
 pub const SHEET_LAYOUT: u8 = 1;
@@ -29,3 +30,6 @@ pub const NOTHING_TO_TAKE: u8 = 11;
 pub const ANGLE_TOO_LARGE: u8 = 12;
 
 pub const OUTPUT_LENGTH: u8 = 13;
+
+// The buffer that a sheet is saved into is not as long as the sheet.
+pub const SAVE_LENGTH: u8 = 14;

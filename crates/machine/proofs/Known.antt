@@ -17,6 +17,7 @@ use Rattle.float.specs.Whole.{wholeOf}
 use Rattle.float.specs.Turn.{third, reduced, quotient, sineOf, cosineOf, wholePart, mod4}
 use Rattle.float.specs.SinCos.{sinCosOf}
 use Rattle.field.specs.Read.{u16At, u32At, floatAt, finiteAt, finiteIn, finiteRow}
+use Rattle.field.specs.Write.{byteOf, floatByte, floatBytes}
 use Rattle.field.specs.Name.{sameByte, sameName, zeroByte, emptyName, rowNamed, findName, otherName, nameOk, namesOk}
 use Rattle.sheet.specs.Sheet as sheet
 use Rattle.sheet.specs.Rows.{nextName, animationRow, contentRow, targetRow}
@@ -26,6 +27,7 @@ use Rattle.keys.specs.Rules.{finiteKey, constantKey, stepKey, curveOk, trackOk}
 use Rattle.keys.specs.Keys.{keysFit, heldTrack, keysOk}
 use Rattle.keys.specs.Stored.{storedFrames, storedValues, storedSlopes}
 use Rattle.keys.specs.Load.{arraysOk, lengthsOk, loadTable, loadOf}
+use Rattle.saved.specs.Saved.{pointsOf, savedOf}
 use Rattle.curve.specs.Keys.{before}
 use Rattle.curve.specs.Span.{spanOf}
 use Rattle.curve.specs.Curve.{evalHermite, evalCurve}
@@ -43,9 +45,9 @@ use Rattle.edit.specs.Keys.{keyAt, putKey}
 use Rattle.player.specs.Player.{freshPlayer, selectionOk, usedOk, countsOk, playerOk}
 use Rattle.edit.specs.Edit.{hasKey, place, spotOf, lowest, highest, clampedFrame, editedFrame, editedValue, editedAt, edited, overtakes, requestRows, keyIn, editRows}
 use Rattle.player.specs.View.{playView, poseView, ticks, tickSum, countOf, wraps, tickFrame, tickMoves, tickEnds, endOf, tickView, tickAnswer}
-use Rattle.menu.specs.Rows.{playRows, poseRows, tickRows, playTable, poseTable, tickTable, editTable, nextNameTable}
+use Rattle.menu.specs.Rows.{playRows, poseRows, tickRows, saveRows, playTable, poseTable, tickTable, editTable, saveTable, nextNameTable}
 use Rattle.menu_readings.specs.Rows.{paneChannelRows, materialChannelRows, cascadeRows, readPaneTable, readMaterialTable, cascadeTable}
-use Rattle.menu.specs.Calls.{playOf, poseOf, tickOf, editOf, loadedOf, nextNameOf}
+use Rattle.menu.specs.Calls.{playOf, poseOf, tickOf, editOf, loadedOf, writtenBy, saveOf, nextNameOf}
 use Rattle.menu_readings.specs.Readings.{activeIn, oneOf, cascadedOf, readPaneOf, readMaterialOf, cascadeOf}
 use Rattle.machine.specs.Small as small
 use Rattle.machine.specs.Poses as poses
@@ -59,7 +61,7 @@ unfolding round ofBits toBits add sub mul div rem neg lt le eq ofInt toUnsigned 
 numbers = tt
 
 fields : Unit {0}
-unfolding u16At u32At floatAt finiteAt finiteIn finiteRow sameByte sameName zeroByte emptyName rowNamed findName otherName nameOk namesOk
+unfolding u16At u32At floatAt finiteAt finiteIn finiteRow byteOf floatByte floatBytes sameByte sameName zeroByte emptyName rowNamed findName otherName nameOk namesOk
 fields = tt
 
 formats : Unit {0}
@@ -67,7 +69,7 @@ unfolding sheet.sizesOk sheet.lengthOk sheet.animationOk sheet.contentOk sheet.t
 formats = tt
 
 keys : Unit {0}
-unfolding finiteKey constantKey stepKey curveOk trackOk keysFit heldTrack keysOk storedFrames storedValues storedSlopes arraysOk lengthsOk loadTable loadOf
+unfolding finiteKey constantKey stepKey curveOk trackOk keysFit heldTrack keysOk storedFrames storedValues storedSlopes arraysOk lengthsOk loadTable loadOf pointsOf savedOf
 keys = tt
 
 curves : Unit {0}
@@ -87,11 +89,11 @@ unfolding keyAt putKey freshPlayer selectionOk hasKey usedOk countsOk playerOk p
 player = tt
 
 calls : Unit {0}
-unfolding playRows poseRows tickRows paneChannelRows materialChannelRows cascadeRows playTable poseTable tickTable editTable nextNameTable readPaneTable readMaterialTable cascadeTable playOf poseOf tickOf editOf loadedOf nextNameOf activeIn oneOf cascadedOf readPaneOf readMaterialOf cascadeOf
+unfolding playRows poseRows tickRows saveRows paneChannelRows materialChannelRows cascadeRows playTable poseTable tickTable editTable saveTable nextNameTable readPaneTable readMaterialTable cascadeTable playOf poseOf tickOf editOf loadedOf writtenBy saveOf nextNameOf activeIn oneOf cascadedOf readPaneOf readMaterialOf cascadeOf
 calls = tt
 
 pose-table : Unit {0}
-unfolding small.over small.below small.minus small.whole small.u16 small.f32 small.name small.allKeys small.contents small.targets small.frames small.points small.sheet small.followed small.following small.pane small.book poses.bits poses.told poses.readOne poses.met poses.ticked poses.seen poses.played poses.loaded poses.posed poses.playing poses.viewing poses.readPane poses.readMaterial poses.paneTrack poses.colourTrack poses.moves poses.still poses.shows poses.colours poses.fades poses.curveAt poses.tickAt poses.playFrom5 poses.poseFrom5 poses.tickOn poses.endFrom poses.readBy poses.editTo poses.uvUnder poses.topLeft poses.childAlpha poses.shared poses.poses poses.same poses.right
+unfolding small.over small.below small.minus small.whole small.u16 small.f32 small.name small.allKeys small.contents small.targets small.frames small.points small.sheet small.followed small.following small.pane small.book poses.bits poses.told poses.readOne poses.met poses.ticked poses.seen poses.played poses.loaded poses.posed poses.playing poses.viewing poses.readPane poses.readMaterial poses.paneTrack poses.colourTrack poses.moves poses.still poses.shows poses.colours poses.fades poses.curveAt poses.tickAt poses.playFrom5 poses.poseFrom5 poses.tickOn poses.endFrom poses.readBy poses.editTo poses.slopes poses.saveInto poses.uvUnder poses.topLeft poses.childAlpha poses.shared poses.poses poses.same poses.right
 pose-table = tt
 
 pub known : T (poses.right poses.poses)

@@ -11,7 +11,10 @@ pub mod Edit
 pub mod Undo
 pub mod Redo
 pub mod Ask
+pub mod Save
 pub mod Steps
 pub mod Loaded
 pub mod Theorem
+pub mod Stays
+pub mod Saved
 pub mod Known

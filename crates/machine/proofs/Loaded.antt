@@ -24,7 +24,7 @@ use Rattle.menu.specs.Calls.{loadedOf}
 use Rattle.machine.proofs.Invariant.{Sane}
 
 -- the number of a load is its list's
-not-declined : (s : List ℕ) (ks : Keys) → loadedOf s ks .refusal ≡ 0 → declines (loadTable s (length (ks .frames)) (length (ks .values)) (length (ks .slopes))) ≡ 0
+pub not-declined : (s : List ℕ) (ks : Keys) → loadedOf s ks .refusal ≡ 0 → declines (loadTable s (length (ks .frames)) (length (ks .values)) (length (ks .slopes))) ≡ 0
 unfolding loadedOf loadOf
 not-declined s ks e = e
 

@@ -3,6 +3,7 @@ use mathlib.Core.Path.{_≡_, refl, ap, _∙_}
 use mathlib.Core.Bool.{true}
 use mathlib.Core.List.{List}
 use Prim.Native.Nat.{ℕ, suc, _+_, _≤_, _<_, _^_}
+use native.Mathlib.Nat.{zero-add}
 use native.Mathlib.Omega.{arith}
 use lib.ListN.{length}
 use lib.Ieee.{ofBits}
@@ -36,10 +37,10 @@ pub record Agree (s : List ℕ) (t : State) (m : Plain) : Type 0 where
   pub within : t .player .reach ≤ rows
 
 -- after n calls
-record Related (s : List ℕ) (n : ℕ) (t : State) (m : Plain) : Type 0 where
-  journal : Journal
-  is : t ≡ stateOf s m journal
-  good : Good s n m journal
+pub record Related (s : List ℕ) (n : ℕ) (t : State) (m : Plain) : Type 0 where
+  pub journal : Journal
+  pub is : t ≡ stateOf s m journal
+  pub good : Good s n m journal
 
 module _ (s : List ℕ) (ok : sheetOk s ≡ true) where
   keeps : (n : ℕ) (c : Call) (t : State) (m : Plain) → n < 2 ^ 40 → HeldCall c → Related s n t m → Related s (suc n) (stepP s c t .0) (stepM s c m .0) × (stepP s c t .1 ≡ stepM s c m .1)
@@ -69,26 +70,31 @@ module _ (s : List ℕ) (ok : sheetOk s ≡ true) where
             };
       }
 
-  pub the-player-is-the-machine : (ks : Keys) → Sane s ks → (cs : List Call) → Each HeldCall cs → length cs ≤ 2 ^ 40
-      → Agree s (last (stepP s) cs (record { player = freshPlayer; keys = ks })) (last (stepM s) cs (freshM ks))
-      × (answers (stepP s) cs (record { player = freshPlayer; keys = ks }) ≡ answers (stepM s) cs (freshM ks))
-  the-player-is-the-machine ks w cs held h =
-      let r = runs (stepP s) (stepM s) HeldCall (Related s) (2 ^ 40) keeps cs held 0 (record { player = freshPlayer; keys = ks }) (freshM ks) (omega arith) (start ks w) in
-      let i = r .1 .is in (
-        record {
-          keys = ap (λ t. t .keys) i;
-          view = ap (λ t. viewOf (t .player)) i;
-          reach = ap (λ t. t .player .reach) i;
-          redo = ap (λ t. t .player .redo) i;
-          standing = ap (λ t. t .player .standing) i;
-          accepted = ap (λ t. t .player .accepted) i;
-          undone = ap (λ t. t .player .undone) i;
-          redone = ap (λ t. t .player .redone) i;
-          sums = rw i (r .1 .good .sums);
-          within = rw i (let g = r .1 .good .room in omega arith);
-        },
-        r .2,
-      )
+  module _ (ks : Keys) (w : Sane s ks) (cs : List Call) (held : Each HeldCall cs) (h : length cs ≤ 2 ^ 40) where
+    abbrev first : State
+    first = record { player = freshPlayer; keys = ks }
+
+    pub related : Related s (length cs) (last (stepP s) cs first) (last (stepM s) cs (freshM ks)) × (answers (stepP s) cs first ≡ answers (stepM s) cs (freshM ks))
+    related = rw zero-add at (runs (stepP s) (stepM s) HeldCall (Related s) (2 ^ 40) keeps cs held 0 first (freshM ks) (omega arith) (start ks w))
+
+    pub the-player-is-the-machine : Agree s (last (stepP s) cs first) (last (stepM s) cs (freshM ks)) × (answers (stepP s) cs first ≡ answers (stepM s) cs (freshM ks))
+    the-player-is-the-machine =
+        let r = related in
+        let i = r .0 .is in (
+          record {
+            keys = ap (λ t. t .keys) i;
+            view = ap (λ t. viewOf (t .player)) i;
+            reach = ap (λ t. t .player .reach) i;
+            redo = ap (λ t. t .player .redo) i;
+            standing = ap (λ t. t .player .standing) i;
+            accepted = ap (λ t. t .player .accepted) i;
+            undone = ap (λ t. t .player .undone) i;
+            redone = ap (λ t. t .player .redone) i;
+            sums = rw i (r .0 .good .sums);
+            within = rw i (let g = r .0 .good .room in omega arith);
+          },
+          r .1,
+        )
 
 -- Demand 3, whole. Load any sheet into any arrays; where that is not declined, make any list of at most 2^40 calls, refused ones, damaged books,
 -- NaNs and outputs of every length included: the keys are the loaded ones with the standing edits made in order, counts, selection, playing,

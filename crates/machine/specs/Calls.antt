@@ -13,7 +13,7 @@ use Rattle.edit.specs.Accepted.{HeldRequest}
 use Rattle.menu.specs.declared.playing.Played.{Played}
 use Rattle.menu.specs.declared.playing.Ticked.{Ticked}
 use Rattle.machine.specs.Asks.{Ask, Told, tellOf}
-use Rattle.menu.specs.Calls.{Changed, playOf, poseOf, tickOf, editOf, undoOf, redoOf, nextNameOf}
+use Rattle.menu.specs.Calls.{Changed, Written, playOf, poseOf, tickOf, editOf, undoOf, redoOf, saveOf, nextNameOf}
 
 -- a call: what it takes, player and keys apart
 pub data Call : Type 0 where
@@ -25,6 +25,8 @@ pub data Call : Type 0 where
   redo : Call
   -- a reading over a book, which may be damaged
   ask : List ℕ → Ask → Call
+  -- saving into a buffer, as it is lent
+  save : List ℕ → Call
 
 -- the call's numbers are f32. `Float` holds the values of every format; a call can take none but these.
 abbrev pub HeldCall : Call → Type 0
@@ -35,13 +37,15 @@ HeldCall (edit track key r) = HeldRequest r
 HeldCall undo = Unit {0}
 HeldCall redo = Unit {0}
 HeldCall (ask b q) = Unit {0}
+HeldCall (save o) = Unit {0}
 
 -- what a call answers: a refusal's number, 0 for none; for a tick what it met, and the next name that it ended with, as the Rust's tick returns it;
--- for a reading what it tells
+-- for a reading what it tells; for saving its number, and the buffer as it is left
 pub data Answer : Type 0 where
   number : ℕ → Answer
   ticked : ℕ → Tick → List ℕ → Answer
   told : Told → Answer
+  written : Written → Answer
 
 -- the name, where a tick ended with one, and else none
 abbrev pub onNext : Tick → List ℕ → List ℕ
@@ -74,3 +78,4 @@ stepP s (edit track key r) t = afterChange (editOf s (t .player) (t .keys) track
 stepP s undo t = afterChange (undoOf s (t .player) (t .keys))
 stepP s redo t = afterChange (redoOf s (t .player) (t .keys))
 stepP s (ask b q) t = (t, told (tellOf s b (t .player) (t .keys) q))
+stepP s (save o) t = (t, written (saveOf s (t .player) (t .keys) o))

@@ -1,4 +1,4 @@
--- The plain machine (document 01, "Playing and editing"): fed the calls alone, it holds the loaded keys, the list of standing edits, the redo list,
+-- The plain machine (document 01, "Playing and editing"; saving is document 02's, 1/13): fed the calls alone, it holds the loaded keys, the list of standing edits, the redo list,
 -- a reach of 0..128, three counts and a fresh player's view. It declines by the table on its own state. Definitions only.
 use Prim.Native.Nat.{ℕ, zero, suc, _+_, _-_, min}
 use mathlib.Core.List.{List, [], _∷_}
@@ -14,8 +14,9 @@ use Rattle.player.specs.View.{playView, poseView, tickView, tickAnswer}
 use Rattle.edit.specs.declared.request.Request.{Request}
 use Rattle.edit.specs.Edit.{Edit, madeEdit, editRows}
 use Rattle.player.specs.Undo.{someRows}
-use Rattle.menu.specs.Rows.{playRows, poseRows, tickRows}
-use Rattle.machine.specs.Calls.{Call, play, pose, tick, edit, undo, redo, ask, Answer, number, ticked, told, onNext}
+use Rattle.menu.specs.Rows.{playRows, poseRows, tickRows, saveRows}
+use Rattle.menu.specs.Calls.{writtenBy, savedWith}
+use Rattle.machine.specs.Calls.{Call, play, pose, tick, edit, undo, redo, ask, save, Answer, number, ticked, told, written, onNext}
 use Rattle.machine.specs.Asks.{askRefusal, tellIn}
 
 -- Standing (document 01's word): the edits that stand, here with the newest first. `redo`: the edits that an undo moved there, the one moved last first.
@@ -131,6 +132,7 @@ stepM s (edit track key r) m = edits (declines (editRows s (m .view .selection) 
 stepM s undo m = undoes (declines (someRows (m .reach))) m (m .standing)
 stepM s redo m = redoes (declines (someRows (length (m .redo)))) m (m .redo)
 stepM s (ask b q) m = (m, told (tellIn s b (m .view) (keysOf s m) (askRefusal b q) q))
+stepM s (save o) m = (m, written (writtenBy (saveRows s (length o)) (savedWith s (keysOf s m)) o))
 
 -- freshly loaded
 abbrev pub freshM : Keys → Plain

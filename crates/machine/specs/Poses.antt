@@ -1,7 +1,7 @@
 -- Document 01, "Known poses" and its misreadings: one table, in that section's order. Each row names what is computed, by the definitions that the
 -- contracts of the outward functions cite, and what it must be. Readings, ticks, edits and the cascade are made by calls on whole sheets and
--- books: the sheet is loaded, and played or posed by its calls. Behind them stand cases of "Playing and editing" and "Channels" in which the
--- player and the plain machine use the same definition, so that the claim over lists can't notice a wrong one. Definitions only.
+-- books: the sheet is loaded, and played or posed by its calls. Behind them stand cases of "Playing and editing" and "Channels", and of document
+-- 02, in which the player and the plain machine use the same definition, so that the claim over lists can't notice a wrong one. Definitions only.
 use Prim.Native.Nat.{ℕ}
 use mathlib.Core.Bool.{Bool, true, false, _&&_, cond}
 use mathlib.Core.List.{List, [], _∷_, _++_, map}
@@ -27,7 +27,7 @@ use Rattle.player.specs.Parts.{withView}
 use Rattle.menu.specs.declared.playing.Played.{Played}
 use Rattle.menu.specs.declared.playing.Ticked.{Ticked}
 use Rattle.menu_readings.specs.declared.single.ReadOne.{ReadOne}
-use Rattle.menu.specs.Calls.{loadedOf, playOf, poseOf, tickOf, editOf, nextNameOf}
+use Rattle.menu.specs.Calls.{loadedOf, playOf, poseOf, tickOf, editOf, saveOf, nextNameOf}
 use Rattle.menu_readings.specs.Readings.{readPaneOf, readMaterialOf, cascadeOf}
 use Rattle.machine.specs.Small.{over, below, minus, whole, name, Track, sheet, following, book, parent, child, material}
 
@@ -197,6 +197,17 @@ readBy p = let s = moves kindConstant (key zero' (whole 7) zero' ∷ []) in read
 unfoldable pub editTo : List ℕ → Float → List ℕ
 editTo s x = let r = editOf s (posed s zero') (loaded s) 0 0 (request.Key x (whole 1)) in r .refusal ∷ map bits (r .keys .frames)
 
+-- a Hermite curve of two keys with slopes, the first at this frame with this value
+unfoldable pub slopes : Float → Float → List ℕ
+slopes x v = moves kindHermite (key x v (whole 3) ∷ key (whole 8) (whole 16) (minus 2) ∷ [])
+
+-- key 0 moved to frame 4 and value 1/2, and the sheet saved with these keys into a buffer: the refusal, and the buffer as it is left
+unfoldable pub saveInto : List ℕ → List ℕ → List ℕ
+saveInto s o =
+    let r = editOf s (posed s zero') (loaded s) 0 0 (request.Key (whole 4) (over 1 2)) in
+    let g = saveOf s (posed s zero') (r .keys) o in
+    g .refusal ∷ g .out
+
 -- a layer whose corners all have this pair, under an SRT: the pair of the top left corner
 unfoldable pub uvUnder : List Float → Float → Float → List ℕ
 uvUnder srt u v = let r = uvsOf (u ∷ v ∷ u ∷ v ∷ u ∷ v ∷ u ∷ v ∷ []) srt (replicate 24 zero') in r .refusal ∷ map bits (take 2 (r .out))
@@ -281,6 +292,9 @@ shared =
     ∷ tickOn (still 0) (viewing 0 true true (whole 58)) (over 1 2) gives (0 ∷ 2 ∷ viewOn 0 0 1 (whole 60))
     -- Ended with a next name: that of the animation that ended, all 24 bytes of it.
     ∷ endFrom (whole 58) gives ((0 ∷ 3 ∷ viewOn 1 0 1 (whole 60)) ++ name 5)
+    -- Document 02, 1/13: a saved sheet is laid out as one that has the edited key; a buffer of another length is declined by 14, and left.
+    ∷ saveInto (slopes zero' (whole 1)) (replicate 106 0) gives (0 ∷ slopes (whole 4) (over 1 2))
+    ∷ saveInto (slopes zero' (whole 1)) (replicate 105 7) gives (14 ∷ replicate 105 7)
     -- The remainder has the dividend's sign and is taken at the frame count or past it alone: a negative dt leaves frames below 0 as they are.
     ∷ tickOn (still 1) (viewing 0 true true (whole 2)) (below 1 2) gives (0 ∷ 1 ∷ viewOn 0 1 1 (minus 2))
     ∷ tickOn (still 0) (viewing 0 true true (whole 2)) (below 1 2) gives (0 ∷ 1 ∷ viewOn 0 1 1 (minus 2))

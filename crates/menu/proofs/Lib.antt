@@ -3,3 +3,4 @@ pub mod Results
 pub mod Loads
 pub mod Edits
 pub mod Undoes
+pub mod Saves

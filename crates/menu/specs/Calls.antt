@@ -1,16 +1,18 @@
--- What each call gives (document 01, "Playing and editing" and "What a call declines"): the number of the first row of its list that doesn't hold
+-- What each call gives (document 01, "Playing and editing" and "What a call declines"; document 02, 1/13): the number of the first row of its list that doesn't hold
 -- (specs/Rows), and its step where each does. Definitions only.
 use Prim.Native.Nat.{ℕ}
 use mathlib.Core.Bool.{cond}
 use mathlib.Core.List.{List, []}
 use lib.Dec.{eqb}
+use lib.ListN.{length}
 use lib.Ieee.{Float}
-use Rattle.laws.specs.Rows.{declines}
+use Rattle.laws.specs.Rows.{Row, declines}
 use Rattle.player.specs.declared.Player.{Player}
 use Rattle.player.specs.declared.Tick.the-variants.{Idle}
 use Rattle.player.specs.declared.journal.Entry.{Entry}
 use Rattle.sheet.specs.Rows.{nextName}
 use Rattle.keys.specs.Load.{loadOf}
+use Rattle.saved.specs.Saved.{savedOf}
 use Rattle.edit.specs.Keys.{Keys, keys, keyAt, putKey}
 use Rattle.player.specs.Player.{freshPlayer}
 use Rattle.player.specs.Parts.{viewOf, withView}
@@ -23,7 +25,7 @@ use Rattle.player.specs.Undo.{entryOf, takenKeys, takenPlayer}
 use Rattle.player.specs.Edited.{editedPlayer}
 use Rattle.menu.specs.declared.playing.Played.{Played}
 use Rattle.menu.specs.declared.playing.Ticked.{Ticked}
-use Rattle.menu.specs.Rows.{playTable, poseTable, tickTable, editTable, takeTable, nextNameTable}
+use Rattle.menu.specs.Rows.{playTable, poseTable, tickTable, editTable, takeTable, saveTable, nextNameTable}
 
 unfoldable pub playOf : List ℕ → Player → ℕ → Played
 playOf s p a =
@@ -86,3 +88,22 @@ undoOf s p ks = takeOf Undo s p ks
 
 abbrev pub redoOf : List ℕ → Player → Keys → Changed
 redoOf s p ks = takeOf Redo s p ks
+
+-- what a call gives that writes into an output of bytes, and leaves in it
+pub record Written : Type 0 where
+  pub refusal : ℕ
+  pub out : List ℕ
+
+abbrev pub wrote : ℕ → List ℕ → Written
+wrote n o = record { refusal = n; out = o }
+
+-- the bytes, where each row of the call holds, and else the output as it was
+unfoldable pub writtenBy : List Row → List ℕ → List ℕ → Written
+writtenBy rs bytes o = let n = declines rs in wrote n (cond (eqb n 0) bytes o)
+
+-- Saving: the sheet with the present keys.
+abbrev pub savedWith : List ℕ → Keys → List ℕ
+savedWith s ks = savedOf s (ks .frames) (ks .values) (ks .slopes)
+
+unfoldable pub saveOf : List ℕ → Player → Keys → List ℕ → Written
+saveOf s p ks o = writtenBy (saveTable s p ks (length o)) (savedWith s ks) o

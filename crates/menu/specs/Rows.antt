@@ -1,9 +1,10 @@
--- The rows of document 01's table "What a call declines" that look at the arguments of loading, playing and editing, and each call's whole list, in
--- the order in which its rows are looked at. `..Rows` is a part of a list, `..Table` a call's list. Definitions only.
+-- The rows of document 01's table "What a call declines" that look at the arguments of loading, playing, editing and saving, and each call's whole
+-- list, in the order in which its rows are looked at. `..Rows` is a part of a list, `..Table` a call's list. Definitions only.
 use Prim.Native.Nat.{ℕ}
 use mathlib.Core.Bool.{_&&_, _||_}
 use mathlib.Core.List.{List, [], _∷_, _++_}
 use lib.Dec.{eqb, ltb}
+use lib.ListN.{length}
 use lib.Ieee.{Float}
 use Rattle.laws.specs.Rows.{Row, row}
 use Rattle.float.specs.Numbers.{finite}
@@ -34,6 +35,10 @@ poseRows x = row 8 (finite x) ∷ []
 unfoldable pub tickRows : List ℕ → View → Float → Float → List Row
 tickRows s v dt fps = row 8 (finite dt && finite fps) ∷ row 8 (tickMoves s v dt fps) ∷ []
 
+-- row 14 of save (document 02, 1/13: "when the buffer's length differs from the sheet's"), of a buffer n long
+unfoldable pub saveRows : List ℕ → ℕ → List Row
+saveRows s n = row 14 (eqb n (length s)) ∷ []
+
 -- ---- each call's list
 
 unfoldable pub playTable : List ℕ → Player → ℕ → List Row
@@ -57,6 +62,10 @@ undoTable s p ks = takeTable Undo s p ks
 
 abbrev pub redoTable : List ℕ → Player → Keys → List Row
 redoTable s p ks = takeTable Redo s p ks
+
+-- saving takes sheet, player and keys, and 14 is checked after 5
+unfoldable pub saveTable : List ℕ → Player → Keys → ℕ → List Row
+saveTable s p ks n = stateRows s p ks ++ saveRows s n
 
 -- the name that follows an animation: rows 1 and 6, an animation from A up
 unfoldable pub nextNameTable : List ℕ → ℕ → List Row

@@ -1,8 +1,9 @@
-// Loading, playing and editing: each call looks at its rows of the table in their order, then makes its step. No function here asks anything of its
+// Loading, playing, editing and saving: each call looks at its rows of the table in their order, then makes its step. No function here asks anything of its
 // caller.
 mod editing;
 mod loading;
 mod playing;
+mod saving;
 mod undoing;
 
 pub use editing::key_edit;
@@ -14,5 +15,6 @@ pub use playing::Ticked;
 pub use playing::play;
 pub use playing::pose;
 pub use playing::tick;
+pub use saving::save;
 pub use undoing::redo;
 pub use undoing::undo;

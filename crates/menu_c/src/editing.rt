@@ -1,10 +1,10 @@
-// Edits, undo and redo.
+// Edits, undo, redo and saving.
 use edit::request::Request;
 use menu::Played;
 use player::Player;
 ghost use mathlib.Core.Path.{_≡_};
 ghost use Rattle.edit.specs.Keys.{lent};
-ghost use Rattle.menu.specs.Calls.{gave, editOf, undoOf, redoOf};
+ghost use Rattle.menu.specs.Calls.{gave, wrote, editOf, undoOf, redoOf, saveOf};
 
 #[no_mangle]
 pub extern "C" fn menu_key_edit(
@@ -73,4 +73,18 @@ pub extern "C" fn menu_redo(
     ensures { λ r. ⌜ gave r (lent (frames .exit) (values .exit) (slopes .exit)) ≡ redoOf (now (sheet .entry)) player (lent (frames .entry) (values .entry) (slopes .entry)) ⌝ }
 {
     menu::redo(player, sheet, frames, values, slopes)
+}
+
+#[no_mangle]
+pub extern "C" fn menu_save(
+    player: Player,
+    sheet: &[u8],
+    frames: &[f32],
+    values: &[f32],
+    slopes: &[f32],
+    out: &mut [u8],
+) -> u8
+    ensures { λ r. ⌜ wrote r (now (out .exit)) ≡ saveOf (now (sheet .entry)) player (lent (frames .entry) (values .entry) (slopes .entry)) (now (out .entry)) ⌝ }
+{
+    menu::save(player, sheet, frames, values, slopes, out)
 }

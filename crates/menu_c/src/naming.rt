@@ -10,13 +10,14 @@ ghost use lib.ListN.{length};
 ghost use Rattle.edit.specs.Keys.{lent};
 ghost use Rattle.laws.specs.Rows.{declines};
 ghost use Rattle.menu.specs.Rows.{nextNameTable};
+ghost use Rattle.menu.specs.Calls.{wrote, writtenBy};
 ghost use Rattle.menu_readings.specs.Rows.{textureNameTable};
 ghost use Rattle.field.specs.Name.{nameBytes};
-ghost use Rattle.menu_c.specs.Naming.{gaveName, nameRows, nameInto, nextNameInto, textureNameInto};
+ghost use Rattle.menu_c.specs.Naming.{nameRows, nextNameInto, textureNameInto};
 
 fn hand_out(name: &[u8], out: &mut [u8]) -> u8
     requires { ⌜ length (now name) ≡ nameBytes ⌝ }
-    ensures { λ r. ⌜ gaveName r (now (out .exit)) ≡ nameInto (nameRows (now (out .entry))) (now (name .entry)) (now (out .entry)) ⌝ }
+    ensures { λ r. ⌜ wrote r (now (out .exit)) ≡ writtenBy (nameRows (now (out .entry))) (now (name .entry)) (now (out .entry)) ⌝ }
 {
     if out.len() != NAME_BYTES {
         return OUTPUT_LENGTH;
@@ -40,7 +41,7 @@ fn next_refusal(s: &[u8], animation: u16) -> u8
 // The name that follows an animation, into 24 bytes: all zero where it has none. Refusals 1, 6, 13.
 #[no_mangle]
 pub extern "C" fn menu_next_name(sheet: &[u8], animation: u16, out: &mut [u8]) -> u8
-    ensures { λ r. ⌜ gaveName r (now (out .exit)) ≡ nextNameInto (now (sheet .entry)) animation (now (out .entry)) ⌝ }
+    ensures { λ r. ⌜ wrote r (now (out .exit)) ≡ nextNameInto (now (sheet .entry)) animation (now (out .entry)) ⌝ }
 {
     let n = next_refusal(sheet, animation);
     if n != ACCEPTED {
@@ -80,7 +81,7 @@ pub extern "C" fn menu_texture_name<'a>(
     slot: u16,
     out: &mut [u8],
 ) -> u8
-    ensures { λ r. ⌜ gaveName r (now (out .exit)) ≡ textureNameInto (now (sheet .entry)) (now (book .entry)) player (lent (frames .entry) (values .entry) (slopes .entry)) material slot (now (out .entry)) ⌝ }
+    ensures { λ r. ⌜ wrote r (now (out .exit)) ≡ textureNameInto (now (sheet .entry)) (now (book .entry)) player (lent (frames .entry) (values .entry) (slopes .entry)) material slot (now (out .entry)) ⌝ }
 {
     let n = slot_refusal(player, sheet, book, frames, values, slopes, material, slot);
     if n != ACCEPTED {

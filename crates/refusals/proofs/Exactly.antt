@@ -9,7 +9,7 @@ use native.Mathlib.Omega.{arith}
 use lib.ListN.{length}
 use Rattle.laws.specs.Rows.{Hold, holds-then, Fails, declines-then, Decided, none-fails, one-fails, only-then, held}
 use Rattle.machine.specs.Asks.{one, tables, resolvedPane, resolvedLayer, name, cascaded}
-use Rattle.machine.specs.Calls.{Answer, number, ticked, told, stepP}
+use Rattle.machine.specs.Calls.{Answer, number, ticked, told, written, stepP}
 use Rattle.refusals.specs.Outward.{Outward, made, load, nextName, nextNameOut, textureNameOut, uvs, corners, translate, rotatePoint}
 use Rattle.refusals.specs.Table.{tableOf, refusalOf}
 use Rattle.refusals.specs.Given.{NameSays, Says, Answers}
@@ -43,6 +43,7 @@ says-same (told (resolvedPane r)) n m = number-same
 says-same (told (resolvedLayer r)) n m = number-same
 says-same (told (cascaded r)) n m = number-same
 says-same (told (name k)) n m = name-same k n m
+says-same (written r) n m = number-same
 
 answers-same : (s : List ℕ) (c : Outward) (n m : ℕ) → Answers s c n → Answers s c m → n ≡ 0 → m ≡ 0
 answers-same s (made c t) n m = says-same (stepP s c t .1) n m

@@ -7,11 +7,11 @@ use Rattle.laws.specs.Rows.{declines}
 use Rattle.keys.specs.Load.{loadOf}
 use Rattle.uv.specs.Calls.{Filling, uvs-keeps}
 use Rattle.player.specs.Parts.{View, viewOf}
-use Rattle.menu.specs.Calls.{playOf, poseOf, tickOf, editOf, takeOf, loadedOf}
+use Rattle.menu.specs.Calls.{playOf, poseOf, tickOf, editOf, takeOf, loadedOf, writtenBy, saveOf}
 use Rattle.menu_readings.specs.Readings.{tablesOf, cascadedOf}
-use Rattle.menu_c.specs.Naming.{nameInto, nextNameInto, textureNameInto}
+use Rattle.menu_c.specs.Naming.{nextNameInto, textureNameInto}
 use Rattle.machine.specs.Asks.{Ask, paneChannel, materialChannel, all, pane, layer, texture, cascade, askTable, tellIn}
-use Rattle.machine.specs.Calls.{Call, play, pose, tick, edit, undo, redo, ask, State, stepP}
+use Rattle.machine.specs.Calls.{Call, play, pose, tick, edit, undo, redo, ask, save, State, stepP}
 use Rattle.machine.proofs.Ask.{tell-is}
 use Rattle.refusals.specs.Outward.{Outward, made, load, nextName, nextNameOut, textureNameOut, uvs, corners, translate, rotatePoint}
 use Rattle.refusals.specs.Table.{callTable, tableOf, refusalOf}
@@ -29,7 +29,7 @@ told-keeps s b v t n (texture m k) d = refl
 told-keeps s b v t n (cascade visible alpha influence) d = rw (ne-eqb n 0 d)
 
 call-keeps : (s : List ℕ) (c : Call) (t : State) → (declines (callTable s c t) ≡ 0 → ⊥) → callAfter (stepP s c t) ≡ callBefore c t
-unfolding callTable playOf poseOf tickOf editOf takeOf
+unfolding callTable playOf poseOf tickOf editOf takeOf saveOf writtenBy
 call-keeps s (play a) t d = rw (ne-eqb (declines (callTable s (play a) t)) 0 d)
 call-keeps s (pose a x) t d = rw (ne-eqb (declines (callTable s (pose a x) t)) 0 d)
 call-keeps s (tick dt fps) t d = rw (ne-eqb (declines (callTable s (tick dt fps) t)) 0 d)
@@ -38,9 +38,10 @@ call-keeps s undo t d = rw (ne-eqb (declines (callTable s undo t)) 0 d)
 call-keeps s redo t d = rw (ne-eqb (declines (callTable s redo t)) 0 d)
 call-keeps s (ask b q) t d =
     ap (leftBy t) (tell-is s b (t .player) (t .keys) q) ∙ told-keeps s b (viewOf (t .player)) t (declines (askTable s b (t .player) (t .keys) q)) q d
+call-keeps s (save o) t d = rw (ne-eqb (declines (callTable s (save o) t)) 0 d)
 
 pub declined-keeps : (s : List ℕ) (c : Outward) → (refusalOf s c ≡ 0 → ⊥) → after s c ≡ before c
-unfolding tableOf loadedOf loadOf nameInto nextNameInto textureNameInto
+unfolding tableOf loadedOf loadOf writtenBy nextNameInto textureNameInto
 declined-keeps s (made c t) d = call-keeps s c t d
 declined-keeps s (load ks) d = rw (ne-eqb (refusalOf s (load ks)) 0 d)
 declined-keeps s (nextName a) d = refl

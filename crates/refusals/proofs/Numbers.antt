@@ -9,12 +9,12 @@ use Rattle.uv.specs.Calls.{uvs-number}
 use Rattle.corner.specs.Refused.{corners-number, corners-zero, translate-number, translate-zero, rotate-number, rotate-zero}
 use Rattle.player.specs.declared.Player.{Player}
 use Rattle.edit.specs.Keys.{Keys}
-use Rattle.menu.specs.Calls.{playOf, poseOf, tickOf, editOf, takeOf, loadedOf, nextNameOf}
+use Rattle.menu.specs.Calls.{playOf, poseOf, tickOf, editOf, takeOf, loadedOf, nextNameOf, writtenBy, saveOf}
 use Rattle.menu_readings.specs.Readings.{oneOf, paneOf, layerOf, tablesOf, cascadedOf, readPaneOf, readMaterialOf, readAllOf, resolvePaneOf, resolveSrtOf, textureNameOf, cascadeOf}
-use Rattle.menu_c.specs.Naming.{nameInto, nextNameInto, textureNameInto}
+use Rattle.menu_c.specs.Naming.{nextNameInto, textureNameInto}
 use Rattle.menu_c.specs.Long.{next-long, texture-long}
 use Rattle.machine.specs.Asks.{Ask, paneChannel, materialChannel, all, pane, layer, texture, cascade, askTable, tellOf}
-use Rattle.machine.specs.Calls.{Call, play, pose, tick, edit, undo, redo, ask, told, State, stepP}
+use Rattle.machine.specs.Calls.{Call, play, pose, tick, edit, undo, redo, ask, save, told, State, stepP}
 use Rattle.refusals.specs.Outward.{Outward, made, load, nextName, nextNameOut, textureNameOut, uvs, corners, translate, rotatePoint}
 use Rattle.refusals.specs.Table.{callTable, tableOf, refusalOf}
 use Rattle.refusals.specs.Given.{Says, Answers, Alone, AnswersAlone}
@@ -32,7 +32,7 @@ ask-answers s b p ks (texture m k) = (λ d. rw (ne-eqb (declines (askTable s b p
 ask-answers s b p ks (cascade visible alpha influence) = refl
 
 call-answers : (s : List ℕ) (c : Call) (t : State) → Says (stepP s c t .1) (declines (callTable s c t))
-unfolding callTable playOf poseOf tickOf editOf takeOf
+unfolding callTable playOf poseOf tickOf editOf takeOf saveOf writtenBy
 call-answers s (play a) t = refl
 call-answers s (pose a x) t = refl
 call-answers s (tick dt fps) t = refl
@@ -40,9 +40,10 @@ call-answers s (edit track key r) t = refl
 call-answers s undo t = refl
 call-answers s redo t = refl
 call-answers s (ask b q) t = ask-answers s b (t .player) (t .keys) q
+call-answers s (save o) t = refl
 
 pub answers-the-number : (s : List ℕ) (c : Outward) → Answers s c (refusalOf s c)
-unfolding tableOf loadedOf loadOf nextNameOf nameInto nextNameInto textureNameInto
+unfolding tableOf loadedOf loadOf nextNameOf writtenBy nextNameInto textureNameInto
 answers-the-number s (made c t) = call-answers s c t
 answers-the-number s (load ks) = refl
 answers-the-number s (nextName a) = (λ d. rw (ne-eqb (refusalOf s (nextName a)) 0 d), next-long s a)
@@ -74,6 +75,7 @@ call-alone s (edit track key r) t d = tt
 call-alone s undo t d = tt
 call-alone s redo t d = tt
 call-alone s (ask b q) t d = ask-alone s b (t .player) (t .keys) q d
+call-alone s (save o) t d = tt
 
 pub declined-alone : (s : List ℕ) (c : Outward) → (refusalOf s c ≡ 0 → ⊥) → AnswersAlone s c
 unfolding tableOf loadedOf nextNameOf

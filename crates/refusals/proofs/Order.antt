@@ -13,11 +13,11 @@ use Rattle.corner.specs.Declined.{rotationRows, cornersTable, translateTable, r
 use Rattle.edit.specs.declared.request.Request.the-variants as request
 use Rattle.edit.specs.Edit.{requestRows, editRows}
 use Rattle.player.specs.Undo.{takeRows}
-use Rattle.menu.specs.Rows.{playRows, poseRows, tickRows, playTable, poseTable, tickTable, editTable, takeTable, nextNameTable}
+use Rattle.menu.specs.Rows.{playRows, poseRows, tickRows, saveRows, playTable, poseTable, tickTable, editTable, takeTable, saveTable, nextNameTable}
 use Rattle.menu_readings.specs.Rows.{paneRows, paneChannelRows, materialChannelRows, layerRows, tablesRows, cascadeRows, readPaneTable, readMaterialTable, readAllTable, resolvePaneTable, resolveSrtTable, textureNameTable, cascadeTable}
 use Rattle.menu_c.specs.Naming.{nameRows, nextNameOutTable, textureNameOutTable}
 use Rattle.machine.specs.Asks.{paneChannel, materialChannel, all, pane, layer, texture, cascade, askTable}
-use Rattle.machine.specs.Calls.{Call, play, pose, tick, edit, undo, redo, ask, State}
+use Rattle.machine.specs.Calls.{Call, play, pose, tick, edit, undo, redo, ask, save, State}
 use Rattle.refusals.specs.Outward.{Outward, made, load, nextName, nextNameOut, textureNameOut, uvs, corners, translate, rotatePoint}
 use Rattle.refusals.specs.Table.{callTable, tableOf, callNumbers, numbersOf, refusalOf}
 
@@ -27,7 +27,7 @@ pub record Ordered (rs : List Row) (ns : List ℕ) : Type 0 where
   pub ordered : inOrder order rs ≡ true
 
 call-ordered : (s : List ℕ) (c : Call) (t : State) → Ordered (callTable s c t) (callNumbers c)
-unfolding inOrder isIn from callTable askTable requestRows editRows takeRows playRows poseRows tickRows paneRows paneChannelRows materialChannelRows layerRows tablesRows cascadeRows playTable poseTable tickTable editTable takeTable readPaneTable readMaterialTable readAllTable resolvePaneTable resolveSrtTable textureNameTable cascadeTable
+unfolding inOrder isIn from callTable askTable requestRows editRows takeRows playRows poseRows tickRows saveRows paneRows paneChannelRows materialChannelRows layerRows tablesRows cascadeRows playTable poseTable tickTable editTable takeTable saveTable readPaneTable readMaterialTable readAllTable resolvePaneTable resolveSrtTable textureNameTable cascadeTable
 call-ordered s (play a) t = record { same = refl; ordered = refl }
 call-ordered s (pose a x) t = record { same = refl; ordered = refl }
 call-ordered s (tick dt fps) t = record { same = refl; ordered = refl }
@@ -42,6 +42,7 @@ call-ordered s (ask b (pane i)) t = record { same = refl; ordered = refl }
 call-ordered s (ask b (layer m k)) t = record { same = refl; ordered = refl }
 call-ordered s (ask b (texture m k)) t = record { same = refl; ordered = refl }
 call-ordered s (ask b (cascade visible alpha influence)) t = record { same = refl; ordered = refl }
+call-ordered s (save o) t = record { same = refl; ordered = refl }
 
 ordered-rows : (s : List ℕ) (c : Outward) → Ordered (tableOf s c) (numbersOf c)
 unfolding inOrder isIn from tableOf loadTable nextNameTable nameRows nextNameOutTable layerRows textureNameTable textureNameOutTable uvsTable rotationRows cornersTable translateTable rotateTable

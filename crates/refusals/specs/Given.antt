@@ -17,7 +17,7 @@ use Rattle.menu_readings.specs.Readings.{noPane, noLayer}
 use Rattle.field.specs.Name.{nameBytes}
 use Rattle.menu_c.specs.Naming.{nextNameInto, textureNameInto}
 use Rattle.machine.specs.Asks.{Ask, paneChannel, materialChannel, all, pane, layer, texture, cascade, Told, one, tables, resolvedPane, resolvedLayer, name, cascaded}
-use Rattle.machine.specs.Calls.{Call, play, pose, tick, edit, undo, redo, ask, Answer, number, ticked, told, State, stepP}
+use Rattle.machine.specs.Calls.{Call, play, pose, tick, edit, undo, redo, ask, save, Answer, number, ticked, told, written, State, stepP}
 use Rattle.refusals.specs.Outward.{Outward, made, load, nextName, nextNameOut, textureNameOut, uvs, corners, translate, rotatePoint}
 
 -- ---- the number
@@ -36,6 +36,7 @@ Says (told (resolvedPane r)) n = r .refusal ≡ n
 Says (told (resolvedLayer r)) n = r .refusal ≡ n
 Says (told (cascaded r)) n = r .refusal ≡ n
 Says (told (name k)) n = NameSays k n
+Says (written r) n = r .refusal ≡ n
 
 abbrev pub Answers : List ℕ → Outward → ℕ → Type 0
 Answers s (made c t) n = Says (stepP s c t .1) n
@@ -60,6 +61,7 @@ Alone (told (resolvedPane r)) = r ≡ noPane (r .refusal)
 Alone (told (resolvedLayer r)) = r ≡ noLayer (r .refusal)
 Alone (told (cascaded r)) = Unit {0}
 Alone (told (name k)) = k ≡ []
+Alone (written r) = Unit {0}
 
 -- a load gives a fresh player: there is none before it that could come back
 abbrev pub AnswersAlone : List ℕ → Outward → Type 0
@@ -117,11 +119,13 @@ callBefore (edit track key r) t = lentWith t [] []
 callBefore undo t = lentWith t [] []
 callBefore redo t = lentWith t [] []
 callBefore (ask b q) t = lentTo t q
+callBefore (save o) t = lentWith t (o ∷ []) []
 
 abbrev pub callAfter : State × Answer → Lent
 callAfter (t, number m) = lentWith t [] []
 callAfter (t, ticked m a k) = lentWith t [] []
 callAfter (t, told r) = leftBy t r
+callAfter (t, written r) = lentWith t (r .out ∷ []) []
 
 abbrev pub before : Outward → Lent
 before (made c t) = callBefore c t

@@ -1,4 +1,4 @@
--- Document 01's table "What a call declines", call by call: the list of rows that the call's contract cites, and the numbers that the list has.
+-- Document 01's table "What a call declines", with the rows that document 02's requests add, call by call: the list of rows that the call's contract cites, and the numbers that the list has.
 -- Definitions only.
 use Prim.Native.Nat.{ℕ}
 use mathlib.Core.List.{List, [], _∷_}
@@ -9,10 +9,10 @@ use Rattle.uv.specs.Declined.{uvsTable}
 use Rattle.corner.specs.Declined.{cornersTable, translateTable, rotateTable}
 use Rattle.edit.specs.declared.request.Request.{Request}
 use Rattle.edit.specs.declared.request.Request.the-variants as request
-use Rattle.menu.specs.Rows.{playTable, poseTable, tickTable, editTable, undoTable, redoTable, nextNameTable}
+use Rattle.menu.specs.Rows.{playTable, poseTable, tickTable, editTable, undoTable, redoTable, saveTable, nextNameTable}
 use Rattle.menu_c.specs.Naming.{nextNameOutTable, textureNameOutTable}
 use Rattle.machine.specs.Asks.{Ask, paneChannel, materialChannel, all, pane, layer, texture, cascade, askTable}
-use Rattle.machine.specs.Calls.{Call, play, pose, tick, edit, undo, redo, ask, State}
+use Rattle.machine.specs.Calls.{Call, play, pose, tick, edit, undo, redo, ask, save, State}
 use Rattle.refusals.specs.Outward.{Outward, made, load, nextName, nextNameOut, textureNameOut, uvs, corners, translate, rotatePoint}
 
 -- of the calls of demand 3
@@ -24,6 +24,7 @@ callTable s (edit track key r) t = editTable s (t .player) (t .keys) track key r
 callTable s undo t = undoTable s (t .player) (t .keys)
 callTable s redo t = redoTable s (t .player) (t .keys)
 callTable s (ask b q) t = askTable s b (t .player) (t .keys) q
+callTable s (save o) t = saveTable s (t .player) (t .keys) (length o)
 
 unfoldable pub tableOf : List ℕ → Outward → List Row
 tableOf s (made c t) = callTable s c t
@@ -37,7 +38,7 @@ tableOf s (translate k d) = translateTable k d
 tableOf s (rotatePoint p c r) = rotateTable p c r
 
 -- The numbers of a call's rows, in their order: "Loading takes sheet and key arrays; play, pose, tick take sheet and player; edits, undo, redo also
--- keys; readings also keys and book", and behind what they take their own. A number stands as often as its row has tests of its own.
+-- keys; readings also keys and book", and saving "takes sheet, player and keys"; behind what they take their own. A number stands as often as its row has tests of its own.
 abbrev pub editNumbers : Request → List ℕ
 editNumbers (request.Key x v) = 1 ∷ 3 ∷ 4 ∷ 5 ∷ 6 ∷ 7 ∷ 8 ∷ 9 ∷ []
 editNumbers (request.Slope m) = 1 ∷ 3 ∷ 4 ∷ 5 ∷ 6 ∷ 7 ∷ 8 ∷ 10 ∷ []
@@ -59,6 +60,7 @@ callNumbers (edit track key r) = editNumbers r
 callNumbers undo = 1 ∷ 3 ∷ 4 ∷ 5 ∷ 5 ∷ 11 ∷ []
 callNumbers redo = 1 ∷ 3 ∷ 4 ∷ 5 ∷ 5 ∷ 11 ∷ []
 callNumbers (ask b q) = askNumbers q
+callNumbers (save o) = 1 ∷ 3 ∷ 4 ∷ 5 ∷ 14 ∷ []
 
 abbrev pub numbersOf : Outward → List ℕ
 numbersOf (made c t) = callNumbers c

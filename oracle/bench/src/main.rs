@@ -34,6 +34,10 @@ fn menu_table(name: &str, mut menu: Menu) {
     );
     head();
     row("loading", None, rows::load(&menu));
+    let Both { ours, ratio, .. } = rows::save(&menu);
+    println!("| saving with its checks | {ours} | | {ratio} × loading |");
+    let plain = rows::plain_writer(&menu);
+    println!("| the same bytes in plain Rust, nothing checked | | {plain} | |");
     row(
         "checks of a reading alone (rows 1 to 5)",
         None,

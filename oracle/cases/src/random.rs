@@ -12,6 +12,11 @@ impl Random {
         Self { state: seed }
     }
 
+    /// Another generator, which takes no number from this one.
+    pub fn beside(&self) -> Self {
+        Self { state: !self.state }
+    }
+
     pub fn word(&mut self) -> u64 {
         self.state = self.state.wrapping_add(0x9E37_79B9_7F4A_7C15);
         let mut z = self.state;

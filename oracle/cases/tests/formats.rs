@@ -26,8 +26,9 @@ fn good_ones_are_read_back() {
         assert_eq!(Book::read(&book.write()), Some(book.clone()));
         let size = good::size(&mut random);
         let sheet = good::sheet(&mut random, size, &book);
-        assert_eq!(Sheet::read(&sheet.write()), Some(sheet.clone()));
-        assert_eq!(loading_refusal(&sheet.write()), 0);
+        let bytes = sheet.write();
+        assert_eq!(Sheet::read(&bytes), Some(sheet.clone()));
+        assert_eq!((bytes.len(), loading_refusal(&bytes)), (sheet.length(), 0));
     }
     let full = good::sheet(&mut random, good::FULL, &Book::default());
     assert_eq!(full.write().len(), LONGEST);

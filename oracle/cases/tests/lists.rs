@@ -2,14 +2,16 @@
 //! what the lists reach. `Walk` itself holds the two against each other.
 
 use cases::calls::ends::{self, NextNames};
+use cases::calls::held::Held;
 use cases::calls::walk::{Step, Walk};
 use cases::calls::{Call, NONE, Tick, Told, views};
+use cases::format::load;
 use cases::random::Random;
 use cases::sheets::damage;
 
 #[test]
 fn lists_reach_every_refusal_and_long_journals() {
-    let mut refusals = [0u64; 14];
+    let mut refusals = [0u64; 15];
     let (mut calls, mut spoils, mut long, mut plain) = (0u64, 0u64, 0u64, 0u64);
     let mut next_names = NextNames::default();
     let mut slots = [0u64; 3];
@@ -37,7 +39,7 @@ fn lists_reach_every_refusal_and_long_journals() {
         plain += u64::from(walk.is_plain());
     }
     println!("{calls} calls, {spoils} spoils, {refusals:?}, {long} long, {plain} plain to the end");
-    let can_occur = [1, 2, 3, 4, 5, 6, 7, 8, 9, 10, 11, 13];
+    let can_occur = [1, 2, 3, 4, 5, 6, 7, 8, 9, 10, 11, 13, 14];
     assert!(can_occur.iter().all(|&n| refusals[n] > 50), "{refusals:?}");
     assert!(refusals[0] > calls / 2, "{refusals:?}");
     assert!(long > 50, "{long}");
@@ -46,6 +48,44 @@ fn lists_reach_every_refusal_and_long_journals() {
     assert!(next_names.wide > 50);
     assert!(next_names.without > 50);
     assert!(slots.iter().all(|&n| n > 10), "{slots:?}");
+}
+
+/// What is saved is the loaded sheet where no edit stands, and loads as the keys
+/// held.
+#[test]
+fn saves_keep_the_sheet_and_hold_the_keys() {
+    let mut refusals = [0u64; 15];
+    let (mut unedited, mut undone) = (0u64, 0u64);
+    for seed in 0..4000 {
+        let mut walk = Walk::of_seed(seed);
+        while let Some(step) = walk.step() {
+            let Step::Called(Call::Save { .. }, answer) = step else {
+                continue;
+            };
+            refusals[usize::from(answer.refusal)] += 1;
+            let Some(written) = answer.saved() else {
+                continue;
+            };
+            assert_loads(written, &walk.held);
+            if walk.is_unedited() {
+                assert!(written == walk.held.sheet_bytes);
+                unedited += 1;
+                undone += u64::from(walk.held.player.accepted > 0);
+            }
+        }
+    }
+    println!("{refusals:?}, {unedited} with no standing edit, {undone} of them after some");
+    let can_occur = [0, 1, 3, 4, 5, 14];
+    let met = refusals.iter().enumerate().filter(|(_, n)| **n > 0);
+    assert_eq!(met.map(|(i, _)| i).collect::<Vec<_>>(), can_occur);
+    assert!(can_occur.iter().all(|&n| refusals[n] > 50), "{refusals:?}");
+    assert!(unedited > undone && undone > 50);
+}
+
+fn assert_loads(written: &[u8], held: &Held) {
+    let arrays = held.keys.each_ref().map(|array| vec![-77.0; array.len()]);
+    let loaded = load::answer(written, &arrays);
+    assert_eq!((loaded.refusal, loaded.arrays), (0, held.key_bits()));
 }
 
 /// Eight names of each length, each with four frame counts.

@@ -3,7 +3,6 @@
 
 use crate::lists::Counts;
 use crate::ours::Ours;
-use cases::calls::Call;
 use cases::calls::alone;
 use cases::calls::held::Held;
 use cases::calls::spoil::Spoil;
@@ -30,11 +29,13 @@ impl Counts {
     fn in_state(&mut self, held: &mut Held, ours: &Ours) -> Option<String> {
         let (player, keys) = (held.player.clone(), held.keys.clone());
         for spoils in alone::spoils(held) {
+            let unedited = player.standing == 0 && spoils.iter().all(Spoil::is_plain);
             for call in alone::calls() {
                 let back: Vec<Spoil> = spoils.iter().map(|spoil| spoil.make(held)).collect();
                 let mut spoiled = ours.clone();
                 spoils.iter().for_each(|spoil| spoiled.spoil(spoil));
-                let found = self.call(&call, held, &mut spoiled);
+                let plain = held.step(&call);
+                let found = self.compare(&call, &plain, held, &mut spoiled, unedited);
                 if let Some(found) = found {
                     return Some(format!("{spoils:?}: {found}"));
                 }
@@ -45,10 +46,5 @@ impl Counts {
             }
         }
         None
-    }
-
-    fn call(&mut self, call: &Call, held: &mut Held, ours: &mut Ours) -> Option<String> {
-        let plain = held.step(call);
-        self.compare(call, &plain, held, ours)
     }
 }

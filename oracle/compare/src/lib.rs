@@ -5,6 +5,7 @@ pub mod arguments;
 pub mod lists;
 pub mod ours;
 pub mod probe;
+pub mod saves;
 pub mod shapes;
 pub mod tally;
 pub mod views;

@@ -1,8 +1,9 @@
 //! Runs of lists, and what they came to: how many calls of each kind, how many
-//! of each refusal, how many next names, how many lists with more edits than a
-//! journal holds.
+//! of each refusal, how many next names, how many sheets saved as they were and
+//! otherwise, how many lists with more edits than a journal holds.
 
 use crate::ours::Ours;
+use crate::saves::Saves;
 use cases::calls::ends::{self, NextNames};
 use cases::calls::held::Held;
 use cases::calls::player::ROWS;
@@ -15,7 +16,7 @@ use cases::random::Random;
 use cases::sheets::damage;
 
 /// By a call's code.
-const KINDS: [&str; 15] = [
+const KINDS: [&str; 16] = [
     "play",
     "pose",
     "tick",
@@ -31,9 +32,10 @@ const KINDS: [&str; 15] = [
     "texture name",
     "cascade",
     "next name",
+    "save",
 ];
 
-const REFUSALS: usize = 14;
+const REFUSALS: usize = 15;
 
 #[derive(Default)]
 pub struct Counts {
@@ -45,6 +47,7 @@ pub struct Counts {
     /// Next names that were the ones that the Rust's ticks returned, and ticks
     /// that ended without one as the Rust's did.
     next_names: NextNames,
+    saves: Saves,
     /// Lists that passed 128 edits, and those whose plain machine was beside
     /// to the end.
     long: u64,
@@ -117,7 +120,7 @@ impl Counts {
                 ours.spoil(spoil);
             }
             Step::Called(call, answer) => {
-                return self.compare(call, answer, &walk.held, ours);
+                return self.compare(call, answer, &walk.held, ours, walk.is_unedited());
             }
         }
         let same = ours.is(&walk.held);
@@ -125,13 +128,15 @@ impl Counts {
     }
 
     /// Makes a call that the plain player has made and answered: the answers,
-    /// and then player and keys whole.
+    /// and then player and keys whole. `unedited`: no edit stands, and nothing but
+    /// edits moved the keys.
     pub fn compare(
         &mut self,
         call: &Call,
         plain: &Answer,
         held: &Held,
         ours: &mut Ours,
+        unedited: bool,
     ) -> Option<String> {
         self.calls += 1;
         self.of_kind[usize::from(call.code())][usize::from(plain.refusal)] += 1;
@@ -142,11 +147,21 @@ impl Counts {
         if let Told::Tick(tick) = &plain.told {
             self.next_names.add(tick);
         }
+        if let Some(written) = plain.saved()
+            && let Err(what) = self.saves.add(written, held, ours, unedited)
+        {
+            return Some(format!("{call:?}: {what}"));
+        }
         if slot(call).is_some_and(|slot| ours.step(&slot, held).refusal != given.refusal) {
             return Some(format!("{call:?} has not the number of reading the slot"));
         }
         let same = ours.is(held);
         (!same).then(|| format!("player or keys after {call:?}"))
+    }
+
+    /// Whether some save came with all edits undone, and some gave another sheet.
+    pub fn saved_both_ways(&self) -> bool {
+        self.saves.both_ways()
     }
 
     /// Whether some tick ended with a next name, and some without one.
@@ -185,6 +200,7 @@ impl Counts {
             self.next_names.all(),
             occurred(of_length, 0)
         );
+        self.saves.print();
     }
 }
 

@@ -1,5 +1,5 @@
-//! Plays, poses, ticks and readings in every kind of view: the plain machine and
-//! the plain player beside the proved one.
+//! Plays, poses, ticks, readings and saves in every kind of view: the plain machine
+//! and the plain player beside the proved one.
 
 use crate::lists::Counts;
 use crate::ours::Ours;

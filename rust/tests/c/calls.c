@@ -101,6 +101,31 @@ static void editing(menu_player player) {
     CHECK(undone.player.accepted == 2 && undone.player.redone == 1 && undone.player.standing == 0);
 }
 
+/* The sheet with an edit, loaded again into arrays of its own; and with the edit undone. */
+static void saving(menu_player player) {
+    static uint8_t saved[sizeof sheet], untouched[sizeof sheet];
+    float again[3][KEYS];
+    menu_played edited = menu_key_edit(player, sheet, sheet_len, LENT_KEYS, TRACK, KEY, 6, 20);
+    CHECK(menu_save(edited.player, sheet, sheet_len, LENT_KEYS, saved, sheet_len) == MENU_OK);
+    CHECK(memcmp(saved, sheet, sheet_len) != 0);
+    CHECK(menu_load(saved, sheet_len, again[0], KEYS, again[1], KEYS, again[2], KEYS).refusal == MENU_OK);
+    CHECK(again[0][PLACE] == 6 && again[1][PLACE] == 20 && again[2][PLACE] == 0);
+    CHECK(memcmp(again[0], frames, sizeof frames) == 0 && memcmp(again[1], values, sizeof values) == 0);
+    CHECK(memcmp(again[2], slopes, sizeof slopes) == 0);
+
+    menu_played undone = menu_undo(edited.player, sheet, sheet_len, LENT_KEYS);
+    CHECK(menu_save(undone.player, sheet, sheet_len, LENT_KEYS, saved, sheet_len) == MENU_OK);
+    CHECK(memcmp(saved, sheet, sheet_len) == 0);
+
+    memset(saved, 0xA5, sizeof saved);
+    memset(untouched, 0xA5, sizeof untouched);
+    CHECK(menu_save(player, sheet, sheet_len, LENT_KEYS, saved, sheet_len - 1) == MENU_SAVE_LENGTH);
+    CHECK(menu_save(player, sheet, sheet_len, LENT_KEYS, saved, sheet_len + 1) == MENU_SAVE_LENGTH);
+    player.frame = NAN;
+    CHECK(menu_save(player, sheet, sheet_len, LENT_KEYS, saved, 0) == MENU_STATE);
+    CHECK(memcmp(saved, untouched, sizeof saved) == 0);
+}
+
 static void readings(menu_player player) {
     menu_read_one one = menu_read_pane(player, LENT, 1, 0);
     CHECK(one.refusal == MENU_OK && one.kind == MENU_NUMBER && one.number == 8);
@@ -174,6 +199,7 @@ int main(int count, char **arguments) {
     menu_player player = playing();
     readings(player);
     editing(player);
+    saving(player);
     shapes();
     return failed;
 }

@@ -129,6 +129,10 @@ pub fn calls() -> Vec<Call> {
         Call::Cascade { short: 5 },
         Call::Cascade { short: 6 },
         Call::NextName(0),
+        Call::Save { short: 0 },
+        Call::Save { short: 1 },
+        Call::Save { short: 2 },
+        Call::Save { short: 3 },
     ]
 }
 

@@ -57,7 +57,7 @@ fn sheet(next: Option<Name>, frame_count: u16, looping: u8) -> Sheet {
 }
 
 /// Half a frame before the end, past it, and once more when it has ended; then
-/// the name by itself.
+/// the name by itself, and the sheet that it is in saved.
 fn list(frame_count: u16) -> Vec<Call> {
     let tick = |frames: f32| Call::Tick {
         dt: frames,
@@ -69,6 +69,7 @@ fn list(frame_count: u16) -> Vec<Call> {
         tick(1.0),
         tick(1.0),
         Call::NextName(ENDING),
+        Call::Save { short: 0 },
     ]
 }
 

@@ -5,10 +5,11 @@
 use super::player::{Entry, Player};
 use super::readings::{self, LentBook, refused};
 use super::reference::Reference;
-use super::{Answer, Call, Request, Told, lent_length, table};
+use super::{Answer, Call, Request, Told, buffer_length, lent_length, table};
 use crate::bits::bits_of;
 use crate::format::book::Book;
 use crate::format::load::Arrays;
+use crate::format::save;
 use crate::format::sheet::Sheet;
 
 pub struct Held {
@@ -47,6 +48,11 @@ impl Held {
     pub fn lengths(&self) -> [usize; 3] {
         let count = self.keys[0].len();
         [1, 2, 3].map(|of| lent_length(count, 3, of, self.short))
+    }
+
+    /// How long the buffer of a save is lent.
+    pub fn buffer_length(&self, short: u8) -> usize {
+        buffer_length(self.sheet.length(), short)
     }
 
     /// Sets one of a key's numbers.
@@ -88,7 +94,7 @@ impl Held {
         }
         let refusal = self.rows_1_to_5(call);
         if refusal != 0 {
-            return refused(&self.book, call, refusal);
+            return refused(&self.sheet, &self.book, call, refusal);
         }
         if self.changed && call.takes_keys() {
             self.reference.put_all(&self.keys);
@@ -100,7 +106,7 @@ impl Held {
     /// It takes the sheet alone and answers with no number.
     fn next_name(&self, call: &Call, animation: u16) -> Answer {
         if self.sheet_damaged {
-            return refused(&self.book, call, 0);
+            return refused(&self.sheet, &self.book, call, 0);
         }
         let told = readings::next_name(&self.reference, animation);
         Answer { refusal: 0, told }
@@ -144,16 +150,17 @@ impl Held {
             }
             Call::Undo => self.undo_rows(),
             Call::Redo => self.redo_rows(),
+            Call::Save { short } => table::save_rows(&self.sheet, short),
             _ => return readings::answer(&self.sheet, &self.book, &self.reference, view, call),
         };
         if refusal != 0 {
-            return refused(&self.book, call, refusal);
+            return refused(&self.sheet, &self.book, call, refusal);
         }
         let told = self.moved(call);
         Answer { refusal, told }
     }
 
-    /// The step of an accepted call that is no reading.
+    /// The step of an accepted call that is no reading; a save's moves nothing.
     fn moved(&mut self, call: &Call) -> Told {
         let view = self.player.view();
         match *call {
@@ -182,6 +189,7 @@ impl Held {
                 self.put_back(entry, entry.after);
                 self.player.redid();
             }
+            Call::Save { .. } => return Told::Saved(save::written(&self.sheet, &self.keys)),
             _ => {}
         }
         Told::Done

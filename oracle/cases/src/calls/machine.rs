@@ -9,6 +9,7 @@ use super::reference::Reference;
 use super::{Answer, Call, Request, Told, View, table};
 use crate::bits::bits_of;
 use crate::format::load::Arrays;
+use crate::format::save;
 use crate::format::sheet::Sheet;
 
 /// How often the keys are made anew where one more edit would do.
@@ -91,6 +92,12 @@ impl Machine {
                 let refusal = if self.redo.is_empty() { 11 } else { 0 };
                 self.unless(refusal, call, book, Self::redo)
             }
+            Call::Save { short } => {
+                let refusal = table::save_rows(&self.sheet, short);
+                self.unless(refusal, call, book, |m| {
+                    Told::Saved(save::written(&m.sheet, &m.keys))
+                })
+            }
             Call::NextName(animation) => Answer {
                 refusal: 0,
                 told: readings::next_name(&self.reference, animation),
@@ -108,7 +115,7 @@ impl Machine {
         step: impl FnOnce(&mut Self) -> Told,
     ) -> Answer {
         if refusal != 0 {
-            return refused(book, call, refusal);
+            return refused(&self.sheet, book, call, refusal);
         }
         let told = step(self);
         Answer { refusal, told }
@@ -182,6 +189,11 @@ impl Machine {
             self.make(self.standing[i]);
         }
         self.reference.take_all(&mut self.keys);
+    }
+
+    /// Whether no edit stands.
+    pub fn is_unedited(&self) -> bool {
+        self.standing.is_empty()
     }
 
     /// The keys' bits.

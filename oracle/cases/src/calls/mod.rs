@@ -24,7 +24,7 @@ use crate::format::Name;
 /// The number that selects nothing.
 pub const NONE: u16 = 65_535;
 
-/// What stands in an output before a reading: a refused one leaves it.
+/// What stands in an output before a call: a refused one leaves it.
 pub const FILL_BYTE: u8 = 0xA5;
 pub const FILL_BITS: u32 = 0x42A5_A5A5;
 
@@ -33,6 +33,14 @@ pub const FILL_BITS: u32 = 0x42A5_A5A5;
 pub fn lent_length(count: usize, outputs: u8, of: u8, short: u8) -> usize {
     let longer = usize::from(short == outputs + of);
     count - usize::from(short == of) + longer
+}
+
+/// How long the buffer of a save is lent, where the sheet is `count` long.
+pub fn buffer_length(count: usize, short: u8) -> usize {
+    match short {
+        3 => 0,
+        _ => lent_length(count, 1, 1, short),
+    }
 }
 
 /// A call: what it takes, player, keys, sheet and book apart.
@@ -77,6 +85,10 @@ pub enum Call {
         short: u8,
     },
     NextName(u16),
+    /// 1: the buffer is one short, 2: one long, 3: empty.
+    Save {
+        short: u8,
+    },
 }
 
 /// What is asked of a key: a frame and a value, or a slope.
@@ -92,6 +104,16 @@ pub enum Request {
 pub struct Answer {
     pub refusal: u8,
     pub told: Told,
+}
+
+impl Answer {
+    /// What an accepted save wrote.
+    pub fn saved(&self) -> Option<&[u8]> {
+        match &self.told {
+            Told::Saved(bytes) if self.refusal == 0 => Some(bytes),
+            _ => None,
+        }
+    }
 }
 
 #[derive(Clone, Debug, PartialEq)]
@@ -116,6 +138,8 @@ pub enum Told {
         alpha: Vec<u32>,
         influence: Vec<u32>,
     },
+    /// The buffer of a save.
+    Saved(Vec<u8>),
 }
 
 #[derive(Clone, Copy, Debug, PartialEq)]
@@ -200,6 +224,7 @@ impl Call {
             Call::TextureName { .. } => 12,
             Call::Cascade { .. } => 13,
             Call::NextName(_) => 14,
+            Call::Save { .. } => 15,
         }
     }
 
@@ -213,6 +238,10 @@ impl Call {
 
     /// Whether the call is a reading, which takes the book too.
     pub fn takes_book(&self) -> bool {
-        self.takes_keys() && !matches!(self, Call::Edit { .. } | Call::Undo | Call::Redo)
+        let without = matches!(
+            self,
+            Call::Edit { .. } | Call::Undo | Call::Redo | Call::Save { .. }
+        );
+        self.takes_keys() && !without
     }
 }

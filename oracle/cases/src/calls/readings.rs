@@ -1,7 +1,9 @@
 //! The readings of document 01 from what the published text evaluates.
 
 use super::reference::Reference;
-use super::{Answer, Call, FILL_BITS, FILL_BYTE, One, Tick, Told, View, lent_length, table};
+use super::{
+    Answer, Call, FILL_BITS, FILL_BYTE, One, Tick, Told, View, buffer_length, lent_length, table,
+};
 use crate::format::book::{Book, Material};
 use crate::format::sheet::Sheet;
 use crate::readings::published_form as form;
@@ -77,11 +79,11 @@ pub fn answer(
     call: &Call,
 ) -> Answer {
     let Some(book) = &lent.good else {
-        return refused(lent, call, 2);
+        return refused(sheet, lent, call, 2);
     };
     let refusal = table::reading_rows(&book.rows, call);
     if refusal != 0 {
-        return refused(lent, call, refusal);
+        return refused(sheet, lent, call, refusal);
     }
     let state = reference.evaluate(view, &book.labels);
     Answer {
@@ -170,8 +172,9 @@ pub fn material_reading(channel: usize, read: Option<f32>) -> One {
     }
 }
 
-/// What a refused call answers.
-pub fn refused(book: &LentBook, call: &Call, refusal: u8) -> Answer {
+/// What a refused call answers. The sheet is the loaded one, also where other bytes
+/// are lent.
+pub fn refused(sheet: &Sheet, book: &LentBook, call: &Call, refusal: u8) -> Answer {
     let told = match *call {
         Call::Tick { .. } => Told::Tick(Tick::Idle),
         Call::ReadPane { .. } | Call::ReadMaterial { .. } => Told::One(One::Nothing),
@@ -192,6 +195,7 @@ pub fn refused(book: &LentBook, call: &Call, refusal: u8) -> Answer {
             influence: vec![FILL_BITS; book.panes_lent(3, short)],
         },
         Call::Play(_) | Call::Pose(..) | Call::Edit { .. } | Call::Undo | Call::Redo => Told::Done,
+        Call::Save { short } => Told::Saved(vec![FILL_BYTE; buffer_length(sheet.length(), short)]),
     };
     Answer { refusal, told }
 }

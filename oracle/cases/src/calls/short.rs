@@ -39,11 +39,12 @@ const fn key(track: u16, key: u16, frame: f32, value: f32) -> Call {
 pub const COUNT: usize = CALLS.len().pow(LENGTH);
 
 /// The list of a number: the first animation plays, then its calls, and then all
-/// channels are read.
+/// channels are read and the sheet is saved.
 pub fn list(number: usize) -> Vec<Call> {
     let place = |i: u32| number / CALLS.len().pow(i) % CALLS.len();
     let mut list = vec![Call::Play(0)];
     list.extend((0..LENGTH).map(|i| CALLS[place(i)]));
     list.push(Call::ReadAll { short: 0 });
+    list.push(Call::Save { short: 0 });
     list
 }

@@ -23,8 +23,8 @@ const MANY: u64 = ROWS as u64 + 12;
 /// The most keys of a list's sheet.
 const MOST_KEYS: usize = 24;
 
-/// Keys, channels and cascade are told after so many calls that may move the
-/// player or its keys.
+/// Keys, channels and cascade are told, and the sheet is saved, after so many
+/// calls that may move the player or its keys.
 const EVERY: usize = 16;
 
 /// A list, and what it is answered.
@@ -60,6 +60,7 @@ impl List {
     }
 
     /// Writes a call and its answer, and what it may have moved; gives its refusal.
+    /// Where an undo took the last standing edit, the sheet is saved as it was.
     fn keep(&mut self, step: &Step) -> u8 {
         let Step::Called(call, answer) = step else {
             panic!("{step:?} is no call");
@@ -75,6 +76,9 @@ impl List {
                 self.show();
             }
         }
+        if matches!(call, Call::Undo) && refusal == 0 && self.walk.is_unedited() {
+            self.call(Call::Save { short: 0 });
+        }
         refusal
     }
 
@@ -83,6 +87,7 @@ impl List {
         self.ask("keys", text::keys);
         self.call(Call::ReadAll { short: 0 });
         self.call(Call::Cascade { short: 0 });
+        self.call(Call::Save { short: 0 });
     }
 
     fn ask(&mut self, verb: &str, answer: fn(&Held) -> Vec<u8>) {
@@ -139,8 +144,9 @@ fn random_list(seed: u64) -> List {
     list.finish()
 }
 
-/// More edits than a journal holds; undo until it is declined, redo until it is,
-/// a few undone again, and an edit, after which nothing can be made again.
+/// More edits than a journal holds; undo until it is declined, and what stands
+/// then is saved; redo until it is, a few undone again, and an edit, after which
+/// nothing can be made again.
 fn long_list(seed: u64) -> List {
     let mut random = Random::new(seed);
     let (sheet, book) = menu(&mut random);
@@ -153,6 +159,7 @@ fn long_list(seed: u64) -> List {
         draw(&mut list, Mode::Edits);
     }
     while list.call(Call::Undo) == 0 {}
+    list.call(Call::Save { short: 0 });
     (0..20).for_each(|_| {
         draw(&mut list, Mode::Reads);
     });
@@ -215,6 +222,7 @@ mod tests {
             "cascade",
             "player",
             "keys",
+            "save",
         ];
         each_occurs(&verbs, 20, &calls, |line, word| line.starts_with(word));
 
@@ -241,6 +249,7 @@ mod tests {
             "translate ",
             "pane ",
             "material ",
+            "saved ",
         ];
         each_occurs(&told, 3, &answers, |line, word| line.starts_with(word));
         // NaNs are too rare for these lists; the curves of `vectors` have them.
@@ -281,6 +290,15 @@ mod tests {
         assert!(sheets.iter().any(outside));
         let rows = || sheets.iter().flat_map(|sheet| &sheet.animations);
         assert!(rows().any(|row| row.looping == 1) && rows().any(|row| row.looping == 0));
+    }
+
+    #[test]
+    fn sheets_are_saved_as_they_were_and_otherwise() {
+        let answers = lines(lists(1).map(|list| list.answers));
+        let saves = answers.iter().filter(|line| line.starts_with("saved "));
+        let (same, other): (Vec<_>, Vec<_>) =
+            saves.partition(|line| line.contains(" bytes, 0 differ "));
+        assert!(same.len() > 20 && other.len() > 20);
     }
 
     #[test]

@@ -1,9 +1,10 @@
-//! Document 01, "What a call declines": each row that a list of calls can meet,
-//! in plain words. A row answers whether it declines.
+//! Document 01, "What a call declines", and row 14 of document 02: each row that a
+//! list of calls can meet, in plain words and in the order in which they decline:
+//! 1 to 5, 14, 6 to 13. A row answers whether it declines.
 
 use super::player::{Entry, Player, ROWS};
 use super::reference::Reference;
-use super::{Call, NONE, Request, View};
+use super::{Call, NONE, Request, View, buffer_length};
 use crate::curves::{CONSTANT, HERMITE};
 use crate::format::book::Book;
 use crate::format::keys;
@@ -92,6 +93,17 @@ pub fn row_5_return(
 /// Where a track's key is among all keys.
 pub fn place(sheet: &Sheet, track: u16, key: u16) -> usize {
     sheet.targets[usize::from(track)].keys().start + usize::from(key)
+}
+
+/// Row 14 of a save, which comes next: "when the buffer's length differs from the
+/// sheet's".
+pub fn save_rows(sheet: &Sheet, short: u8) -> u8 {
+    let length = sheet.length();
+    if buffer_length(length, short) == length {
+        0
+    } else {
+        14
+    }
 }
 
 /// "play from A up", where none is no number from A up.

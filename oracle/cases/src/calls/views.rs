@@ -1,5 +1,5 @@
-//! Every view of a few with every play, pose, tick and reading of a few, whether
-//! a list of calls reaches the view or not: nothing selected and yet playing or
+//! Every view of a few with every play, pose, tick, reading and save of a few,
+//! whether a list of calls reaches the view or not: nothing selected and yet playing or
 //! shown, preview off, frames below zero and past the end.
 
 use super::ends::FRAME_COUNTS;
@@ -150,6 +150,7 @@ pub fn calls(sheet: &Sheet) -> Vec<Call> {
         calls.extend(RATES.map(|fps| Call::Tick { dt, fps }));
     }
     calls.extend(readings());
+    calls.extend([0, 1].map(|short| Call::Save { short }));
     calls
 }
 

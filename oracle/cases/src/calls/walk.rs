@@ -14,10 +14,16 @@ use crate::random::Random;
 /// Steps that a list still has once the plain machine is left behind.
 const AFTER: usize = 8;
 
+/// The sheet is saved before one step in so many, and in a spoiled state.
+const SAVES: usize = 24;
+const SPOILED_SAVES: usize = 4;
+
 pub struct Walk {
     pub held: Held,
     machine: Option<Machine>,
     random: Random,
+    /// Where saves come. They move nothing, so the other steps are as without them.
+    saves: Random,
     mode: Mode,
     /// Steps left of the mode, and of the list.
     turns: usize,
@@ -52,6 +58,7 @@ impl Walk {
         Self {
             held: Held::new(sheet, book),
             machine: Some(Machine::new(sheet)),
+            saves: random.beside(),
             random,
             mode: Mode::Mixed,
             turns: 2,
@@ -75,11 +82,22 @@ impl Walk {
         self.machine.is_some()
     }
 
+    /// Whether the keys come from the loaded ones by the list's calls alone, and no
+    /// edit of them stands.
+    pub fn is_unedited(&self) -> bool {
+        let own = self.back.iter().all(Spoil::is_plain);
+        own && self.machine.as_ref().is_some_and(Machine::is_unedited)
+    }
+
     /// The next step; nothing once the list has its length and stands unspoiled.
     pub fn step(&mut self) -> Option<Step> {
         if let Some(spoil) = self.due.pop() {
             self.spoil_for(&spoil);
             return Some(Step::Spoiled(spoil));
+        }
+        if self.saves_now() {
+            let call = some::save(&mut self.saves);
+            return Some(self.call(call));
         }
         if self.turns == 0 || self.left == 0 {
             if let Some(spoil) = self.back.pop() {
@@ -102,6 +120,16 @@ impl Walk {
         }
         let call = some::call(&mut self.random, &self.held, self.mode);
         Some(self.call(call))
+    }
+
+    /// Whether a save comes next. The list has its length without them.
+    fn saves_now(&mut self) -> bool {
+        let once_in = if self.back.is_empty() {
+            SAVES
+        } else {
+            SPOILED_SAVES
+        };
+        self.left > 0 && self.saves.once_in(once_in)
     }
 
     /// Makes a spoil, and gives the one that takes it back.

@@ -6,6 +6,7 @@ pub mod book;
 pub mod bytes;
 pub mod keys;
 pub mod load;
+pub mod save;
 pub mod sheet;
 
 /// A name is 24 bytes; zero bytes at its end don't count.

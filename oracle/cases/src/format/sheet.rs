@@ -53,6 +53,11 @@ pub struct Target {
     pub key_count: u16,
 }
 
+/// How many bytes a sheet of these sizes is.
+fn length([a, c, t, k, x]: [usize; 5]) -> usize {
+    SIZES + 28 * a + 28 * c + 14 * t + 24 * x + 12 * k
+}
+
 impl Sheet {
     /// The sheet that the bytes are, or nothing where row 1 declines them.
     pub fn read(bytes: &[u8]) -> Option<Self> {
@@ -68,7 +73,7 @@ impl Sheet {
             && k <= MOST_KEYS
             && x <= MOST_TEXTURES
             && zero == 0;
-        if !sizes_ok || bytes.len() != SIZES + 28 * a + 28 * c + 14 * t + 24 * x + 12 * k {
+        if !sizes_ok || bytes.len() != length([a, c, t, k, x]) {
             return None;
         }
         let mut sheet = Self {
@@ -119,16 +124,25 @@ impl Sheet {
         rows_ok && keys == self.frames.len()
     }
 
-    pub fn write(&self) -> Vec<u8> {
-        let mut writer = Writer::default();
-        let sizes = [
+    /// A, C, T, K and X.
+    fn sizes(&self) -> [usize; 5] {
+        [
             self.animations.len(),
             self.contents.len(),
             self.targets.len(),
             self.frames.len(),
             self.textures.len(),
-        ];
-        sizes.iter().for_each(|&n| writer.u16(n as u16));
+        ]
+    }
+
+    /// How many bytes it is written in.
+    pub fn length(&self) -> usize {
+        length(self.sizes())
+    }
+
+    pub fn write(&self) -> Vec<u8> {
+        let mut writer = Writer::default();
+        self.sizes().iter().for_each(|&n| writer.u16(n as u16));
         writer.u16(self.zero);
         self.animations
             .iter()

@@ -1,13 +1,16 @@
 //! `calls COUNT SEED`: lists of calls on the plain machine, whose calls mean what
 //! the published text says, beside the proved player: every answer and output,
 //! all keys and the whole player after each. A tick that ends with a next name
-//! must be one of the Rust's that returned that name. First every short list over
-//! a few calls; then animations that end, with a next name of every length; then
-//! plays, poses and ticks in every kind of view; then every field, journal row
-//! and key spoiled alone; then random lists, until COUNT of their calls were
-//! compared. In each of these some tick must end with a next name and some
-//! without one, for which a COUNT below 5,000 may be too small. `calls 0 SEED`
-//! runs the one random list of that seed, and tells its steps.
+//! must be one of the Rust's that returned that name. What a save wrote must be
+//! the loaded sheet where no edit stands, load as the keys held, and be saved again
+//! as it is. First every short list over a few calls; then animations that end,
+//! with a next name of every length; then plays, poses, ticks, readings and saves
+//! in every kind of view; then every field, journal row and key spoiled alone; then
+//! random lists, until COUNT of their calls were compared. In each of these some
+//! tick must end with a next name and some without one, and in the short and the
+//! random lists some save must come with all edits undone and some give another
+//! sheet, for which a COUNT below 20,000 may be too small. `calls 0 SEED` runs the
+//! one random list of that seed, and tells its steps.
 
 use cases::calls::{ends, short};
 use cases::random::Random;
@@ -26,6 +29,7 @@ fn main() {
     let (lists, sheets) = (short::COUNT, ends::pairs().len());
     let what = format!("{lists} short lists on each of {sheets} sheets");
     report_part(&counts, &what, found);
+    require_saves(&counts, &what);
 
     let mut counts = Counts::default();
     let found = counts.each_end();
@@ -42,7 +46,9 @@ fn main() {
     let mut counts = Counts::default();
     let found = random_lists(&mut counts, count, seed);
     counts.print_lists();
-    report_part(&counts, &format!("random lists, seed {seed}"), found);
+    let what = format!("random lists, seed {seed}");
+    report_part(&counts, &what, found);
+    require_saves(&counts, &what);
 }
 
 /// Random lists until so many calls were made; of those that differ, the one
@@ -80,6 +86,15 @@ fn report_part(counts: &Counts, what: &str, differs: Option<String>) {
     report(counts, what, differs);
     if !counts.ended_both_ways() {
         println!("{what}: no tick ended with a next name, or none without one");
+        std::process::exit(1);
+    }
+}
+
+/// A part with edits fails too where no save came with all undone, or each gave the
+/// loaded sheet.
+fn require_saves(counts: &Counts, what: &str) {
+    if !counts.saved_both_ways() {
+        println!("{what}: no save came with all edits undone, or none gave another sheet");
         std::process::exit(1);
     }
 }

@@ -1,7 +1,8 @@
 //! `formats COUNT SEED`: the plain readers of sheets and books, and loading,
 //! beside the proved ones, on every rule broken alone and then on COUNT good and
-//! mutated ones.
+//! mutated ones. A sheet that loads is saved again, which must give its bytes.
 
+use cases::calls::FILL_BYTE;
 use cases::format::load::{self, Arrays};
 use cases::format::{book_refusal, loading_refusal};
 use cases::random::Random;
@@ -9,6 +10,7 @@ use cases::sheets::{books, damage, good};
 use compare::arguments::Arguments;
 use compare::probe::formats;
 use compare::tally::Tally;
+use dovebolt::Player;
 
 /// Mutations of each good sheet and book.
 const MUTATIONS: usize = 31;
@@ -20,6 +22,7 @@ const BEFORE: f32 = -77.0;
 struct Tallies {
     sheets: Tally,
     loads: Tally,
+    saves: Tally,
     books: Tally,
 }
 
@@ -52,11 +55,15 @@ fn main() {
 impl Tallies {
     fn add_sheet(&mut self, random: &mut Random, bytes: &[u8]) {
         let case = || format!("{bytes:02x?}");
-        let plain = loading_refusal(bytes) != 1;
-        self.sheets.add(plain, formats::sheet_ok(bytes), case);
+        let refusal = loading_refusal(bytes);
+        self.sheets
+            .add(refusal != 1, formats::sheet_ok(bytes), case);
         let arrays = arrays(random, bytes);
         let plain = load::answer(bytes, &arrays);
         self.loads.add(plain, formats::load(bytes, &arrays), case);
+        if refusal == 0 {
+            self.saves.add((0, bytes.to_vec()), saved(bytes), case);
+        }
     }
 
     fn add_book(&mut self, bytes: &[u8]) {
@@ -68,6 +75,7 @@ impl Tallies {
     fn report(&self, which: &str) {
         self.sheets.report(&format!("sheets, {which}"));
         self.loads.report(&format!("loading, {which}"));
+        self.saves.report(&format!("saving what loads, {which}"));
         self.books.report(&format!("books, {which}"));
     }
 }
@@ -84,6 +92,14 @@ fn arrays(random: &mut Random, bytes: &[u8]) -> Arrays {
         arrays[random.below(3)].resize(wrong.min(3000), BEFORE);
     }
     arrays
+}
+
+/// The refusal, or 0, and the buffer, of a save right after loading.
+fn saved(sheet: &[u8]) -> (u8, Vec<u8>) {
+    let mut out = vec![FILL_BYTE; sheet.len()];
+    let saved =
+        Player::load(sheet).and_then(|(player, keys)| player.save_into(sheet, &keys, &mut out));
+    (saved.err().map_or(0, |refusal| refusal.number()), out)
 }
 
 /// A good sheet and a good book.

@@ -3,6 +3,7 @@
 
 mod fields;
 mod refused;
+mod saving;
 
 use cases::bits::bits_of;
 use cases::calls::held::Held;
@@ -107,6 +108,7 @@ impl Ours {
             Call::Undo => done(player.undo(s, keys)),
             Call::Redo => done(player.redo(s, keys)),
             Call::NextName(animation) => next_name(held, animation),
+            Call::Save { short } => self.save(held, short),
             _ => self.read(call, held, s, &held.book.bytes),
         }
     }

@@ -24,8 +24,11 @@ say-unread-requires c κs = search needs
 returns-2 : tie.Need-returns-2
 returns-2 c = search needs
 
-answer-requires : tie.Need-answer-requires
-answer-requires c κs = search needs
+word-requires : tie.Need-word-requires
+word-requires c κs = search needs
+
+save-requires : tie.Need-save-requires
+save-requires c κs = search needs
 
 same-length : tie.Need-same-length
 same-length c = search needs
@@ -39,6 +42,21 @@ same-length-3 c = search needs
 returns-3 : tie.Need-returns-3
 returns-3 c = search needs
 
+answer-requires : tie.Need-answer-requires
+answer-requires c κs = search needs
+
+same-length-4 : tie.Need-same-length-4
+same-length-4 c = search needs
+
+same-length-5 : tie.Need-same-length-5
+same-length-5 c = search needs
+
+same-length-6 : tie.Need-same-length-6
+same-length-6 c = search needs
+
+returns-4 : tie.Need-returns-4
+returns-4 c = search needs
+
 pub answer-line-spec : {M : Type 1} → statement M
 answer-line-spec =
     tie.close
@@ -49,8 +67,14 @@ answer-line-spec =
     call-of-requires
     say-unread-requires
     returns-2
-    answer-requires
+    word-requires
+    save-requires
     same-length
     same-length-2
     same-length-3
-    returns-3)
+    returns-3
+    answer-requires
+    same-length-4
+    same-length-5
+    same-length-6
+    returns-4)

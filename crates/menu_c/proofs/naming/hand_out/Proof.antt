@@ -1,4 +1,4 @@
--- `hand_out` gives `nameInto`, its outputs included: the name, where each row of the call holds.
+-- `hand_out` gives `writtenBy`, its outputs included: the name, where each row of the call holds.
 use Rattle.menu_c.proofs.Handed.{handed-not, handed}
 use borrow.Author.Needs.{needs}
 use Rattle.menu_c.proofs.naming.hand_out.Statement.{statement}

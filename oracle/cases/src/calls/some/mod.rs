@@ -12,7 +12,7 @@ use crate::random::Random;
 use crate::readings::some::{frame as some_frame, vary, vary_textures};
 use crate::sheets::{books, good, names};
 use edits::edit;
-use reads::reading;
+use reads::{reading, seldom};
 
 /// What a stretch of a list does.
 #[derive(Clone, Copy, Debug, PartialEq)]
@@ -125,6 +125,12 @@ fn mixed(random: &mut Random, held: &Held) -> Call {
         9..12 => tick(random),
         _ => reading(random, held),
     }
+}
+
+/// A save, whose buffer now and then has another length.
+pub fn save(random: &mut Random) -> Call {
+    let short = seldom(random, 3);
+    Call::Save { short }
 }
 
 /// In a spoiled state undo and redo look closest; a damaged book is for readings

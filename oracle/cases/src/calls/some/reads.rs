@@ -77,7 +77,7 @@ fn below_or_so(random: &mut Random, n: usize) -> u16 {
 }
 
 /// 0, and now and then one of 1 to `n`.
-fn seldom(random: &mut Random, n: usize) -> u8 {
+pub fn seldom(random: &mut Random, n: usize) -> u8 {
     if random.once_in(5) {
         1 + random.below(n) as u8
     } else {

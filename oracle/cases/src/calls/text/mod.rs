@@ -52,7 +52,8 @@ pub fn line(call: &Call) -> Option<String> {
         Call::TextureName { material, slot } => format!("name {material} {slot}"),
         Call::Cascade { short: 0 } => "cascade".to_string(),
         Call::NextName(animation) => format!("next {animation}"),
-        Call::ReadAll { .. } | Call::Cascade { .. } => return None,
+        Call::Save { short: 0 } => "save".to_string(),
+        Call::ReadAll { .. } | Call::Cascade { .. } | Call::Save { .. } => return None,
     })
 }
 
@@ -201,6 +202,7 @@ impl Text {
                 self.say("\n");
             }
             Told::Cascade { visible, alpha, .. } => self.cascade(visible, alpha, held),
+            Told::Saved(bytes) => self.saved(bytes, held),
         }
     }
 
@@ -273,6 +275,16 @@ impl Text {
             self.say("\n");
         }
     }
+
+    /// How much was written, and at how many places it is not the loaded sheet.
+    fn saved(&mut self, bytes: &[u8], held: &Held) {
+        let pairs = bytes.iter().zip(&held.sheet_bytes);
+        let differ = pairs.filter(|(written, loaded)| written != loaded).count();
+        let count = bytes.len();
+        self.say(&format!(
+            "saved {count} bytes, {differ} differ from the loaded sheet\n"
+        ));
+    }
 }
 
 fn good(held: &Held) -> &Book {
@@ -280,7 +292,7 @@ fn good(held: &Held) -> &Book {
 }
 
 /// The refusals in the command line's words, the first being 1.
-const MEANINGS: [&str; 13] = [
+const MEANINGS: [&str; 14] = [
     "the sheet breaks its layout",
     "the book breaks its layout",
     "a key array is not as long as the sheet has keys",
@@ -294,4 +306,5 @@ const MEANINGS: [&str; 13] = [
     "nothing to undo, or to redo",
     "an angle above 3,600 degrees",
     "an output is not exactly as long as it must be",
+    "the buffer is not as long as the sheet",
 ];

@@ -1,0 +1,2 @@
+-- What `save` tells of the saved sheet.
+pub mod Differing

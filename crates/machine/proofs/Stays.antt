@@ -1,0 +1,53 @@
+-- The plain machine's loaded keys are those that it began with: no call changes them. Assumes nothing.
+use mathlib.Core.Path.{_≡_, refl, _∙_}
+use mathlib.Core.List.{List, [], _∷_}
+use Prim.Native.Nat.{ℕ, zero, suc}
+use lib.ListN.{length}
+use lib.Ieee.{Float}
+use Rattle.laws.specs.Rows.{declines}
+use Rattle.edit.specs.Edit.{Edit, editRows}
+use Rattle.player.specs.Parts.{View}
+use Rattle.player.specs.View.{playView, poseView}
+use Rattle.player.specs.Undo.{someRows}
+use Rattle.menu.specs.Rows.{playRows, poseRows, tickRows}
+use Rattle.machine.specs.Runs.{last}
+use Rattle.machine.specs.Calls.{Call, play, pose, tick, edit, undo, redo, ask, save}
+use Rattle.machine.specs.Plain.{Plain, keysOf, moves, ticksOn, edits, undoes, redoes, asked, stepM}
+
+-- by the refusal, and for undo and redo by the list that they take from
+module _ (m : Plain) where
+  moved : (n : ℕ) (v : View) → moves n m v .0 .loaded ≡ m .loaded
+  moved zero v = refl
+  moved (suc n) v = refl
+
+  ticked : (n : ℕ) (s : List ℕ) (dt fps : Float) → ticksOn n s dt fps m .0 .loaded ≡ m .loaded
+  ticked zero s dt fps = refl
+  ticked (suc n) s dt fps = refl
+
+  edited : (n : ℕ) (e : Edit) → edits n m e .0 .loaded ≡ m .loaded
+  edited zero e = refl
+  edited (suc n) e = refl
+
+  undone : (n : ℕ) (es : List Edit) → undoes n m es .0 .loaded ≡ m .loaded
+  undone zero [] = refl
+  undone zero (e ∷ es) = refl
+  undone (suc n) es = refl
+
+  redone : (n : ℕ) (es : List Edit) → redoes n m es .0 .loaded ≡ m .loaded
+  redone zero [] = refl
+  redone zero (e ∷ es) = refl
+  redone (suc n) es = refl
+
+step-stays : (s : List ℕ) (c : Call) (m : Plain) → stepM s c m .0 .loaded ≡ m .loaded
+step-stays s (play a) m = moved m (declines (playRows s a)) (playView a (m .view))
+step-stays s (pose a x) m = moved m (declines (poseRows x)) (poseView s a x)
+step-stays s (tick dt fps) m = ticked m (declines (tickRows s (m .view) dt fps)) s dt fps
+step-stays s (edit track key r) m = edited m (declines (editRows s (m .view .selection) (keysOf s m) track key r)) (asked m track key r)
+step-stays s undo m = undone m (declines (someRows (m .reach))) (m .standing)
+step-stays s redo m = redone m (declines (someRows (length (m .redo)))) (m .redo)
+step-stays s (ask b q) m = refl
+step-stays s (save o) m = refl
+
+pub loaded-stays : (s : List ℕ) (cs : List Call) (m : Plain) → last (stepM s) cs m .loaded ≡ m .loaded
+loaded-stays s [] m = refl
+loaded-stays s (c ∷ cs) m = loaded-stays s cs (stepM s c m .0) ∙ step-stays s c m
