@@ -38,22 +38,23 @@ digit-pair m a b c d p q = go (eqb a b) refl (eqb c d) refl
 abbrev pub Bytes : List ℕ → Type 0
 Bytes s = (k : ℕ) → byteAt s k < 256
 
+-- so two bytes are below 2^16, and four below 2^32
+small-16 : (s : List ℕ) → Bytes s → (i : ℕ) → u16At s i < 65536
+unfolding u16At
+small-16 s b i = omega (arith, b i, b (i + 1))
+
+pub small-32 : (s : List ℕ) → Bytes s → (i : ℕ) → u32At s i < 4294967296
+unfolding u32At
+small-32 s b i = omega (arith, small-16 s b i, small-16 s b (i + 2))
+
 module _ (s t : List ℕ) (b : Bytes s) (d : Bytes t) where
   same-16 : (i j : ℕ) → eqb (u16At s i) (u16At t j) ≡ (eqb (byteAt s i) (byteAt t j) && eqb (byteAt s (i + 1)) (byteAt t (j + 1)))
   unfolding u16At
   same-16 i j = digit-pair 256 (byteAt s i) (byteAt t j) (byteAt s (i + 1)) (byteAt t (j + 1)) (b i) (d j)
 
-  small-16 : (l : List ℕ) → Bytes l → (i : ℕ) → u16At l i < 65536
-  unfolding u16At
-  small-16 l h i = omega (arith, h i, h (i + 1))
-
   same-32 : (i j : ℕ) → eqb (u32At s i) (u32At t j) ≡ (eqb (u16At s i) (u16At t j) && eqb (u16At s (i + 2)) (u16At t (j + 2)))
   unfolding u32At
   same-32 i j = digit-pair 65536 (u16At s i) (u16At t j) (u16At s (i + 2)) (u16At t (j + 2)) (small-16 s b i) (small-16 t d j)
-
-  small-32 : (l : List ℕ) → Bytes l → (i : ℕ) → u32At l i < 4294967296
-  unfolding u32At
-  small-32 l h i = omega (arith, small-16 l h i, small-16 l h (i + 2))
 
   same-64 : (i j : ℕ) → eqb (wordAt s i) (wordAt t j) ≡ (eqb (u32At s i) (u32At t j) && eqb (u32At s (i + 4)) (u32At t (j + 4)))
   unfolding wordAt

@@ -14,7 +14,7 @@ use lib.Ieee.Bits.{ofBits-toBits, toBits-ofBits, toBits-lt}
 use Rattle.laws.specs.Table.{table, table-length, table-at, Filled, filled-more}
 use Rattle.float.specs.Bits.{finite-number}
 use Rattle.field.specs.Read.{byteAt, u16At, u32At, floatAt, finiteAt}
-use Rattle.field.specs.Word.{Bytes}
+use Rattle.field.specs.Word.{Bytes, small-32}
 
 -- byte k of a number, the lowest first
 unfoldable pub byteOf : ℕ → ℕ → ℕ
@@ -93,14 +93,10 @@ module _ (s : List ℕ) (b : Bytes s) (i : ℕ) where
   byte-is (suc (suc (suc zero))) j l e = let p : j ≡ i + 2 + 1 = omega arith in rw p (omega (arith, b i, b (i + 1), b (i + 2), b (i + 2 + 1)))
   byte-is (suc (suc (suc (suc k)))) j l e = absurd (omega arith)
 
-  small : u32At s i < 4294967296
-  unfolding u32At u16At
-  small = omega (arith, b i, b (i + 1), b (i + 2), b (i + 2 + 1))
-
   -- and the bytes that a finite f32 was read from are its bytes
   pub byte-back : (k j : ℕ) → finiteAt s i ≡ true → k < 4 → j ≡ i + k → byteOf (toBits binary32 (floatAt s i)) k ≡ byteAt s j
   unfolding floatAt finiteAt
-  byte-back k j h l e = rw (toBits-ofBits binary32 (u32At s i) small (finite-number _ h)) (byte-is k j l e)
+  byte-back k j h l e = rw (toBits-ofBits binary32 (u32At s i) (small-32 s b i) (finite-number _ h)) (byte-is k j l e)
 
 -- ---- f32s that stand one after the other
 
