@@ -25,8 +25,10 @@ enum menu_refusal {
     MENU_BOOK = 2,               /* the book breaks its layout */
     MENU_KEY_LENGTHS = 3,        /* a key array is not as long as the sheet has keys */
     MENU_KEY_RULES = 4,          /* the keys (at loading the sheet's, later the lent ones) break the key rules */
-    MENU_STATE = 5,              /* the player's state is broken, or an undo's or redo's key is not as its entry says */
-    MENU_ANIMATION = 6,          /* no such animation to play or to follow; edit with nothing active */
+    MENU_STATE = 5,              /* the player's state is broken; an open drag's row is out of range, or its starting
+                                  * key, put back, would break the key rules; an undo's or redo's key is not as its
+                                  * entry says */
+    MENU_ANIMATION = 6,          /* no such animation to play or to follow; edit or opening of a drag, nothing active */
     MENU_NO_SUCH = 7,            /* track not in the active animation, or no such key, channel, pane, material or origin */
     MENU_NOT_FINITE = 8,         /* an argument or a tick's frame not finite; UV layers or SRTs not of whole entries */
     MENU_OVERTAKES = 9,          /* clamped frame above the next key's */
@@ -34,7 +36,8 @@ enum menu_refusal {
     MENU_NOTHING_TO_RETURN = 11, /* nothing to undo, or to redo */
     MENU_ANGLE = 12,             /* an angle above 3,600 degrees in size */
     MENU_OUTPUT_LENGTH = 13,     /* outputs not exactly as long */
-    MENU_SAVE_LENGTH = 14        /* the buffer is not as long as the sheet */
+    MENU_SAVE_LENGTH = 14,       /* the buffer is not as long as the sheet */
+    MENU_DRAG = 15               /* a drag is open, or none is */
 };
 
 /* ---- lengths and numbers */
@@ -67,6 +70,17 @@ typedef struct {
     float after_slope[MENU_ROWS];
 } menu_journal;
 
+/* The key that is being dragged. While no drag is open every field is 0, and calls look at `open` alone. */
+typedef struct {
+    bool open;
+    bool moved; /* a drag was accepted since the opening, so that a drop leaves an edit */
+    uint16_t track;
+    uint16_t key;
+    float start_frame; /* the key as it was at the opening, which an abandon puts back */
+    float start_value;
+    float start_slope;
+} menu_drag_state;
+
 /* Made by menu_load, handed in by value and taken back from each answer. */
 typedef struct {
     uint16_t selection; /* an animation's number, or MENU_NONE */
@@ -80,6 +94,7 @@ typedef struct {
     uint64_t redone;
     uint64_t standing; /* edits that stand */
     menu_journal journal;
+    menu_drag_state drag;
 } menu_player;
 
 typedef struct {
@@ -165,21 +180,22 @@ menu_ticked menu_tick(menu_player player, const uint8_t *sheet, size_t sheet_len
 
 /* ---- editing: the keys are those that menu_load filled */
 
-/* Moves a key of the active animation to a frame and a value, held between its neighbours. Refusals 1, 3 to 9. */
+/* Moves a key of the active animation to a frame and a value, held between its neighbours.
+ * Refusals 1, 3 to 6, 15, 7 to 9. */
 menu_played menu_key_edit(menu_player player, const uint8_t *sheet, size_t sheet_len, float *frames, size_t frames_len,
                           float *values, size_t values_len, float *slopes, size_t slopes_len, uint16_t track,
                           uint16_t key, float frame, float value);
 
-/* Gives a Hermite key of the active animation a slope. Refusals 1, 3 to 8, 10. */
+/* Gives a Hermite key of the active animation a slope. Refusals 1, 3 to 6, 15, 7, 8, 10. */
 menu_played menu_slope_edit(menu_player player, const uint8_t *sheet, size_t sheet_len, float *frames,
                             size_t frames_len, float *values, size_t values_len, float *slopes, size_t slopes_len,
                             uint16_t track, uint16_t key, float slope);
 
-/* Takes the last standing edit back. Refusals 1, 3 to 5, 11. */
+/* Takes the last standing edit back. Refusals 1, 3 to 5, 15, 11. */
 menu_played menu_undo(menu_player player, const uint8_t *sheet, size_t sheet_len, float *frames, size_t frames_len,
                       float *values, size_t values_len, float *slopes, size_t slopes_len);
 
-/* Makes the edit that was undone last again. Refusals 1, 3 to 5, 11. */
+/* Makes the edit that was undone last again. Refusals 1, 3 to 5, 15, 11. */
 menu_played menu_redo(menu_player player, const uint8_t *sheet, size_t sheet_len, float *frames, size_t frames_len,
                       float *values, size_t values_len, float *slopes, size_t slopes_len);
 
@@ -188,6 +204,32 @@ menu_played menu_redo(menu_player player, const uint8_t *sheet, size_t sheet_len
 uint8_t menu_save(menu_player player, const uint8_t *sheet, size_t sheet_len, const float *frames, size_t frames_len,
                   const float *values, size_t values_len, const float *slopes, size_t slopes_len, uint8_t *out,
                   size_t out_len);
+
+/* ---- dragging: a key is moved any number of times, and undo sees one edit or none
+ *
+ * While a drag is open, edits, undo, redo and a second opening are declined by 15. Plays, poses, ticks, readings and
+ * saves go on and see the key where it is. */
+
+/* Opens a drag of a key of the active animation, and remembers the key as it is. Refusals 1, 3 to 6, 15, 7. */
+menu_played menu_open_drag(menu_player player, const uint8_t *sheet, size_t sheet_len, const float *frames,
+                           size_t frames_len, const float *values, size_t values_len, const float *slopes,
+                           size_t slopes_len, uint16_t track, uint16_t key);
+
+/* Moves the opened key as menu_key_edit does, whatever animation is active by now, and counts nothing.
+ * Refusals 1, 3 to 5, 15, 8, 9. */
+menu_played menu_drag(menu_player player, const uint8_t *sheet, size_t sheet_len, float *frames, size_t frames_len,
+                      float *values, size_t values_len, float *slopes, size_t slopes_len, float frame, float value);
+
+/* Closes the drag and leaves the key where it is, as one edit from the key at the opening to the key now. Where no drag
+ * was accepted there is no edit, and redo is kept. Refusals 1, 3 to 5, 15. */
+menu_played menu_drop_drag(menu_player player, const uint8_t *sheet, size_t sheet_len, const float *frames,
+                           size_t frames_len, const float *values, size_t values_len, const float *slopes,
+                           size_t slopes_len);
+
+/* Closes the drag and puts the key back as it was at the opening. There is no edit, and reach and redo are kept.
+ * Refusals 1, 3 to 5, 15. */
+menu_played menu_abandon_drag(menu_player player, const uint8_t *sheet, size_t sheet_len, float *frames,
+                              size_t frames_len, float *values, size_t values_len, float *slopes, size_t slopes_len);
 
 /* ---- readings: what the active animation makes of the book's panes and materials */
 

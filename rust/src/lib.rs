@@ -21,8 +21,28 @@
 //! assert_eq!(player.save(&sheet, &keys)?, sheet);
 //! # Ok::<(), dovebolt::Refusal>(())
 //! ```
+//!
+//! A key that follows the mouse is dragged: it is moved any number of times, and undo sees one edit.
+//!
+//! ```
+//! use dovebolt::{Player, example};
+//!
+//! let sheet = example::sheet();
+//! let (mut player, mut keys) = Player::load(&sheet)?;
+//! player.pose(&sheet, Some(0), 0.0)?;
+//! player.open_drag(&sheet, &keys, 3, 1)?; // track 3, key 1
+//! for step in 1..=40 {
+//!     player.drag(&sheet, &mut keys, 6.0, 0.5 * step as f32)?;
+//! }
+//! player.drop_drag(&sheet, &keys)?; // `abandon_drag` would put the key back
+//! assert_eq!((player.reach(), keys.values[6]), (1, 20.0));
+//! player.undo(&sheet, &mut keys)?;
+//! assert_eq!(player.save(&sheet, &keys)?, sheet);
+//! # Ok::<(), dovebolt::Refusal>(())
+//! ```
 
 mod answers;
+mod dragging;
 pub mod example;
 mod formats;
 mod keys;
@@ -33,8 +53,9 @@ mod refusal;
 mod shapes;
 
 pub use answers::{Cascaded, Channels, Reading, ResolvedPane, Srt, Tick, Transform};
+pub use dragging::Drag;
 pub use formats::{Name, channel_count, key_count, next_name, next_name_into, pane_count};
-pub use keys::Keys;
+pub use keys::{Key, Keys};
 pub use player::Player;
 pub use raw::{Corners, Vector2f, Vector3f};
 pub use refusal::Refusal;

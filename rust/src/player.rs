@@ -1,32 +1,10 @@
 use crate::answers::Tick;
 use crate::formats::{Name, next_name};
-use crate::keys::Keys;
+use crate::keys::{Keys, on_keys, read_keys};
 use crate::raw::{self, NONE};
 use crate::refusal::{Refusal, checked};
 
-/// A call that may change the keys.
-macro_rules! on_keys {
-    ($call:path, $player:expr, $sheet:expr, $keys:expr $(, $more:expr)*) => {{
-        let Keys { frames, values, slopes } = $keys;
-        // SAFETY: each pointer has the length of its slice, and the three arrays are lent alone.
-        unsafe {
-            $call(
-                $player,
-                $sheet.as_ptr(),
-                $sheet.len(),
-                frames.as_mut_ptr(),
-                frames.len(),
-                values.as_mut_ptr(),
-                values.len(),
-                slopes.as_mut_ptr(),
-                slopes.len(),
-                $($more),*
-            )
-        }
-    }};
-}
-
-/// What is selected and shown, and the journal of the edits that can be undone and redone.
+/// What is selected and shown, the journal of the edits that can be undone and redone, and the drag that is open.
 ///
 /// A call that is declined leaves the player as it was.
 ///
@@ -266,7 +244,8 @@ impl Player {
         self.raw.standing
     }
 
-    fn take(&mut self, answer: raw::Played) -> Result<(), Refusal> {
+    /// The player as the call left it, or why it was declined.
+    pub(crate) fn take(&mut self, answer: raw::Played) -> Result<(), Refusal> {
         checked(answer.refusal)?;
         self.raw = answer.player;
         Ok(())
@@ -367,7 +346,7 @@ impl Player {
         next_name(sheet, self.raw.selection)
     }
 
-    /// Moves a key of the active animation to a frame and a value. Refusals 1, 3 to 9.
+    /// Moves a key of the active animation to a frame and a value. Refusals 1, 3 to 6, 15, 7 to 9.
     ///
     /// ```
     /// use dovebolt::{Player, Refusal, example};
@@ -402,7 +381,7 @@ impl Player {
         self.take(answer)
     }
 
-    /// Gives a Hermite key of the active animation a slope. Refusals 1, 3 to 8, 10.
+    /// Gives a Hermite key of the active animation a slope. Refusals 1, 3 to 6, 15, 7, 8, 10.
     ///
     /// ```
     /// use dovebolt::{Player, Refusal, example};
@@ -435,7 +414,7 @@ impl Player {
         self.take(answer)
     }
 
-    /// Takes the last standing edit back. Refusals 1, 3 to 5, 11.
+    /// Takes the last standing edit back. Refusals 1, 3 to 5, 15, 11.
     ///
     /// ```
     /// use dovebolt::{Player, Refusal, example};
@@ -454,7 +433,7 @@ impl Player {
         self.take(answer)
     }
 
-    /// Makes the edit that was undone last again. Refusals 1, 3 to 5, 11.
+    /// Makes the edit that was undone last again. Refusals 1, 3 to 5, 15, 11.
     ///
     /// ```
     /// use dovebolt::{Player, example};
@@ -473,8 +452,9 @@ impl Player {
         self.take(answer)
     }
 
-    /// The sheet with the keys as they are now: everything but its two key arrays is copied. While no edit stands, these
-    /// are the bytes that were loaded; [`Player::load`] of what was saved gives the keys that are held. Refusals 1, 3 to 5.
+    /// The sheet with the keys as they are now, a dragged one where it is: everything but its two key arrays is copied.
+    /// While no edit stands and no drag is open, these are the bytes that were loaded; [`Player::load`] of what was saved
+    /// gives the keys that are held. Refusals 1, 3 to 5.
     ///
     /// ```
     /// use dovebolt::{Player, example};
@@ -519,26 +499,13 @@ impl Player {
     /// # Ok::<(), dovebolt::Refusal>(())
     /// ```
     pub fn save_into(&self, sheet: &[u8], keys: &Keys, out: &mut [u8]) -> Result<(), Refusal> {
-        let Keys {
-            frames,
-            values,
-            slopes,
-        } = keys;
-        // SAFETY: each pointer has the length of its slice, and `out` is lent alone.
-        checked(unsafe {
-            raw::menu_save(
-                self.raw,
-                sheet.as_ptr(),
-                sheet.len(),
-                frames.as_ptr(),
-                frames.len(),
-                values.as_ptr(),
-                values.len(),
-                slopes.as_ptr(),
-                slopes.len(),
-                out.as_mut_ptr(),
-                out.len(),
-            )
-        })
+        checked(read_keys!(
+            raw::menu_save,
+            self.raw,
+            sheet,
+            keys,
+            out.as_mut_ptr(),
+            out.len()
+        ))
     }
 }

@@ -39,6 +39,22 @@ pub struct Journal {
     pub after_slope: [f32; ROWS],
 }
 
+/// The key that is being dragged. While no drag is open every field is 0, and calls look at `open` alone.
+///
+/// `moved` says that a drag was accepted since the opening; `start_frame`, `start_value` and `start_slope` are the key
+/// as it was then.
+#[repr(C)]
+#[derive(Clone, Copy, Debug, Default, PartialEq)]
+pub struct Drag {
+    pub open: bool,
+    pub moved: bool,
+    pub track: u16,
+    pub key: u16,
+    pub start_frame: f32,
+    pub start_value: f32,
+    pub start_slope: f32,
+}
+
 /// The player. `selection` is an animation's number, or [`NONE`].
 #[repr(C)]
 #[derive(Clone, Copy, Debug, PartialEq)]
@@ -54,6 +70,7 @@ pub struct Player {
     pub redone: u64,
     pub standing: u64,
     pub journal: Journal,
+    pub drag: Drag,
 }
 
 /// What a call that may move the player answers.
@@ -243,6 +260,54 @@ unsafe extern "C" {
         out: *mut u8,
         out_len: usize,
     ) -> u8;
+    pub fn menu_open_drag(
+        player: Player,
+        sheet: *const u8,
+        sheet_len: usize,
+        frames: *const f32,
+        frames_len: usize,
+        values: *const f32,
+        values_len: usize,
+        slopes: *const f32,
+        slopes_len: usize,
+        track: u16,
+        key: u16,
+    ) -> Played;
+    pub fn menu_drag(
+        player: Player,
+        sheet: *const u8,
+        sheet_len: usize,
+        frames: *mut f32,
+        frames_len: usize,
+        values: *mut f32,
+        values_len: usize,
+        slopes: *mut f32,
+        slopes_len: usize,
+        frame: f32,
+        value: f32,
+    ) -> Played;
+    pub fn menu_drop_drag(
+        player: Player,
+        sheet: *const u8,
+        sheet_len: usize,
+        frames: *const f32,
+        frames_len: usize,
+        values: *const f32,
+        values_len: usize,
+        slopes: *const f32,
+        slopes_len: usize,
+    ) -> Played;
+    pub fn menu_abandon_drag(
+        player: Player,
+        sheet: *const u8,
+        sheet_len: usize,
+        frames: *mut f32,
+        frames_len: usize,
+        values: *mut f32,
+        values_len: usize,
+        slopes: *mut f32,
+        slopes_len: usize,
+    ) -> Played;
     pub fn menu_read_pane(
         player: Player,
         sheet: *const u8,

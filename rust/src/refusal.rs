@@ -12,7 +12,7 @@ macro_rules! refusals {
 
         impl Refusal {
             /// Every refusal, by rising number.
-            pub const ALL: [Refusal; 14] = [$(Refusal::$name),*];
+            pub const ALL: [Refusal; 15] = [$(Refusal::$name),*];
 
             fn words(self) -> &'static str {
                 match self {
@@ -40,10 +40,11 @@ refusals! {
     KeyLengths = 3, "a key array is not K long";
     KeyRules = 4, "keys (at loading the sheet's, later the lent ones) break the key rules";
     State = 5, "selection or a used journal row out of range, frame not finite, reach + redo over 128, reach over \
-        standing, a count or standing over 2^40, or accepted + redone ≠ undone + standing; or an undo (redo) with \
-        an entry to take whose key isn't, bit for bit, as the entry left (found) it, or whose return would break \
-        the key rules";
-    Animation = 6, "play from A up; edit with nothing active";
+        standing, a count or standing over 2^40, or accepted + redone ≠ undone + standing; or an open drag whose row \
+        is out of range or, where keys are taken, whose starting key, put back, would break the key rules; or, while \
+        no drag is open, an undo (redo) with an entry to take whose key isn't, bit for bit, as the entry left (found) \
+        it, or whose return would break the key rules";
+    Animation = 6, "play from A up; edit or opening of a drag with nothing active";
     NoSuch = 7, "track not in the active animation, or no such key, channel, pane, material or origin";
     NotFinite = 8, "an argument, or in a playing tick the sum frame + dt·fps or the frame that it would leave, not finite; a \
         UV layer or SRT list not of whole entries";
@@ -53,16 +54,17 @@ refusals! {
     Angle = 12, "an angle above 3,600 degrees in size";
     OutputLength = 13, "outputs not exactly as long";
     SaveLength = 14, "the buffer is not as long as the sheet";
+    DragState = 15, "a drag is open, or none is";
 }
 
 impl Refusal {
-    /// The refusal of this number, which is 1 to 14.
+    /// The refusal of this number, which is 1 to 15.
     ///
     /// ```
     /// use dovebolt::Refusal;
     ///
     /// assert_eq!(Refusal::from_number(12), Some(Refusal::Angle));
-    /// assert_eq!(Refusal::from_number(15), None);
+    /// assert_eq!(Refusal::from_number(16), None);
     /// ```
     pub fn from_number(number: u8) -> Option<Refusal> {
         let row = usize::from(number).checked_sub(1)?;
@@ -89,10 +91,10 @@ impl fmt::Display for Refusal {
 
 impl std::error::Error for Refusal {}
 
-/// What the number that a call came back with means. The contracts allow 0 to 14.
+/// What the number that a call came back with means. The contracts allow 0 to 15.
 pub(crate) fn checked(number: u8) -> Result<(), Refusal> {
     if number == 0 {
         return Ok(());
     }
-    Err(Refusal::from_number(number).expect("a refusal's number is 1 to 14"))
+    Err(Refusal::from_number(number).expect("a refusal's number is 1 to 15"))
 }

@@ -1,12 +1,12 @@
 //! Every field of every struct that crosses the C ABI, as the library fills it. In each state the fields of one type hold
 //! different values, so that two that were swapped would be seen.
 
-use std::mem::{align_of, size_of};
+use std::mem::{align_of, offset_of, size_of};
 
 use dovebolt::raw::{self, Journal};
 use dovebolt::{
-    Corners, Keys, Player, Reading, Refusal, Srt, Tick, Transform, Vector2f, Vector3f, corners,
-    example, rotate_point, translate,
+    Corners, Drag, Key, Keys, Player, Reading, Refusal, Srt, Tick, Transform, Vector2f, Vector3f,
+    corners, example, rotate_point, translate,
 };
 
 /// The Hermite track of animation 1, and its key of frame 60 and value 51.
@@ -23,17 +23,18 @@ fn loaded() -> (Vec<u8>, Player, Keys) {
 #[test]
 fn sizes() {
     assert_eq!((size_of::<Journal>(), align_of::<Journal>()), (3584, 4));
+    assert_eq!((size_of::<raw::Drag>(), align_of::<raw::Drag>()), (20, 4));
     assert_eq!(
         (size_of::<raw::Player>(), align_of::<raw::Player>()),
-        (3640, 8)
+        (3664, 8)
     );
     assert_eq!(
         (size_of::<raw::Played>(), align_of::<raw::Played>()),
-        (3648, 8)
+        (3672, 8)
     );
     assert_eq!(
         (size_of::<raw::Ticked>(), align_of::<raw::Ticked>()),
-        (3648, 8)
+        (3672, 8)
     );
     assert_eq!(
         (size_of::<raw::ReadOne>(), align_of::<raw::ReadOne>()),
@@ -61,6 +62,29 @@ fn sizes() {
         (size_of::<raw::Turned>(), align_of::<raw::Turned>()),
         (12, 4)
     );
+}
+
+/// A player may be stored as it is, with its fields where docs/FORMAT.md says.
+#[test]
+fn offsets() {
+    macro_rules! offsets {
+        ($of:ty: $($field:ident),*) => { [$(offset_of!($of, $field)),*] };
+    }
+    assert_eq!(
+        offsets!(raw::Player: selection, playing, preview, frame, reach, redo, accepted, undone, redone, standing,
+            journal, drag),
+        [0, 2, 3, 4, 8, 16, 24, 32, 40, 48, 56, 3640]
+    );
+    assert_eq!(
+        offsets!(Journal: track, key, before_frame, before_value, before_slope, after_frame, after_value, after_slope),
+        [0, 256, 512, 1024, 1536, 2048, 2560, 3072]
+    );
+    assert_eq!(
+        offsets!(raw::Drag: open, moved, track, key, start_frame, start_value, start_slope),
+        [0, 1, 2, 4, 8, 12, 16]
+    );
+    assert_eq!(offsets!(raw::Played: refusal, player), [0, 8]);
+    assert_eq!(offsets!(raw::Ticked: refusal, answer, player), [0, 1, 8]);
 }
 
 #[test]
@@ -152,6 +176,61 @@ fn journal() {
         after_slope: rows([0.5, 0.5]),
     };
     assert_eq!(player.as_raw().journal, expected);
+}
+
+/// Fresh, opened, moved and dropped. The key has a slope of its own, so that the three starting numbers differ.
+#[test]
+fn drag() {
+    let (sheet, mut player, mut keys) = loaded();
+    let closed = raw::Drag::default();
+    assert_eq!(player.as_raw().drag, closed);
+    assert_eq!(player.dragging(), None);
+
+    player.pose(&sheet, Some(1), 0.0).unwrap();
+    player
+        .slope_edit(&sheet, &mut keys, TRACK, KEY, 0.5)
+        .unwrap();
+    player.open_drag(&sheet, &keys, TRACK, KEY).unwrap();
+    let opened = raw::Drag {
+        open: true,
+        moved: false,
+        track: TRACK,
+        key: KEY,
+        start_frame: 60.0,
+        start_value: 51.0,
+        start_slope: 0.5,
+    };
+    assert_eq!(player.as_raw().drag, opened);
+    let start = Key {
+        frame: 60.0,
+        value: 51.0,
+        slope: 0.5,
+    };
+    let shown = |moved| {
+        Some(Drag {
+            track: TRACK,
+            key: KEY,
+            start,
+            moved,
+        })
+    };
+    assert_eq!(player.dragging(), shown(false));
+
+    player.drag(&sheet, &mut keys, 58.0, 40.0).unwrap();
+    let moved = raw::Drag {
+        moved: true,
+        ..opened
+    };
+    assert_eq!(player.as_raw().drag, moved);
+    assert_eq!(player.dragging(), shown(true));
+    assert_eq!(
+        (keys.frames[PLACE], keys.values[PLACE], keys.slopes[PLACE]),
+        (58.0, 40.0, 0.5)
+    );
+
+    player.drop_drag(&sheet, &keys).unwrap();
+    assert_eq!(player.as_raw().drag, closed);
+    assert_eq!(player.dragging(), None);
 }
 
 #[test]

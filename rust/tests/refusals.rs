@@ -6,7 +6,7 @@ use dovebolt::{Keys, Player, Refusal, Vector2f, Vector3f, corners, example, uvs_
 type Call = fn(&mut Player, &[u8], &mut Keys) -> Result<(), Refusal>;
 
 /// One call for each refusal, on a player that holds animation 0 at frame 2 and has one edit to undo.
-const CALLS: [(Refusal, Call); 14] = [
+const CALLS: [(Refusal, Call); 15] = [
     (Refusal::Sheet, |p, _, _| p.play(b"no sheet", Some(0))),
     (Refusal::Book, |p, s, k| {
         p.read_all(s, b"no book", k).map(drop)
@@ -50,6 +50,7 @@ const CALLS: [(Refusal, Call); 14] = [
         uvs_into(&[], &[], &mut [0.0; 23])
     }),
     (Refusal::SaveLength, |p, s, k| p.save_into(s, k, &mut [])),
+    (Refusal::DragState, |p, s, k| p.abandon_drag(s, k)),
 ];
 
 #[test]
@@ -66,9 +67,9 @@ fn each_is_reached_and_changes_nothing() {
 }
 
 #[test]
-fn numbers_go_from_1_to_14() {
+fn numbers_go_from_1_to_15() {
     let numbers: Vec<u8> = Refusal::ALL.iter().map(|r| r.number()).collect();
-    assert_eq!(numbers, (1..=14).collect::<Vec<u8>>());
+    assert_eq!(numbers, (1..=15).collect::<Vec<u8>>());
     for refusal in Refusal::ALL {
         assert_eq!(Refusal::from_number(refusal.number()), Some(refusal));
         assert!(
@@ -78,7 +79,7 @@ fn numbers_go_from_1_to_14() {
         );
     }
     assert_eq!(
-        (Refusal::from_number(0), Refusal::from_number(15)),
+        (Refusal::from_number(0), Refusal::from_number(16)),
         (None, None)
     );
 }
@@ -149,4 +150,89 @@ fn saving_looks_at_the_buffer_last() {
     declined(&broken, &sheet, &falling, &any, Refusal::KeyLengths);
     let short = &sheet[1..];
     declined(&broken, short, &falling, &any, Refusal::Sheet);
+}
+
+/// The calls that row 15 is about, and whether it declines them while a drag is open or while none is.
+const BY_DRAG: [(&str, bool, Call); 8] = [
+    ("key edit", true, |p, s, k| p.key_edit(s, k, 3, 1, 5.0, 9.0)),
+    ("slope edit", true, |p, s, k| p.slope_edit(s, k, 3, 1, 0.5)),
+    ("undo", true, |p, s, k| p.undo(s, k)),
+    ("redo", true, |p, s, k| p.redo(s, k)),
+    ("open", true, |p, s, k| p.open_drag(s, k, 3, 1)),
+    ("drag", false, |p, s, k| p.drag(s, k, 5.0, 9.0)),
+    ("drop", false, |p, s, k| p.drop_drag(s, k)),
+    ("abandon", false, |p, s, k| p.abandon_drag(s, k)),
+];
+
+/// Animation 0 with an edit to undo and one to redo, and a drag of the edited key if `open`.
+fn with_drag(open: bool) -> (Vec<u8>, Player, Keys) {
+    let sheet = example::sheet();
+    let (mut player, mut keys) = Player::load(&sheet).unwrap();
+    player.pose(&sheet, Some(0), 2.0).unwrap();
+    player.key_edit(&sheet, &mut keys, 3, 1, 6.0, 20.0).unwrap();
+    player.key_edit(&sheet, &mut keys, 0, 1, 3.0, 2.0).unwrap();
+    player.undo(&sheet, &mut keys).unwrap();
+    if open {
+        player.open_drag(&sheet, &keys, 3, 1).unwrap();
+        player.drag(&sheet, &mut keys, 7.0, 25.0).unwrap();
+    }
+    (sheet, player, keys)
+}
+
+/// Each is declined in one of the two states and changes nothing there; in the other it is accepted and changes the player.
+#[test]
+fn a_drag_is_open_or_none_is() {
+    for open in [true, false] {
+        let (sheet, player, keys) = with_drag(open);
+        for (name, when, call) in BY_DRAG {
+            let (mut after, mut keys_after) = (player.clone(), keys.clone());
+            let answer = call(&mut after, &sheet, &mut keys_after);
+            if when == open {
+                assert_eq!(answer, Err(Refusal::DragState), "{name}, open {open}");
+                assert_eq!((&after, &keys_after), (&player, &keys), "{name}");
+            } else {
+                assert_eq!(answer, Ok(()), "{name}, open {open}");
+                assert_ne!((&after, &keys_after), (&player, &keys), "{name}");
+            }
+        }
+    }
+}
+
+/// 15 comes after 6 and before all others of its calls. An open drag hides what an undo or redo would find.
+#[test]
+fn the_place_of_15() {
+    let (sheet, mut player, mut keys) = with_drag(true);
+    let (s, k) = (&sheet, &mut keys);
+    let drag = Err(Refusal::DragState);
+    // The dragged key is not as its edit left it: row 5 of an undo, were no drag open.
+    assert_eq!(player.undo(s, k), drag);
+    assert_eq!(player.open_drag(s, k, 3, 2), drag);
+    assert_eq!(player.open_drag(s, k, 4, 0), drag);
+    assert_eq!(player.key_edit(s, k, 4, 0, 1.0, 1.0), drag);
+    assert_eq!(player.key_edit(s, k, 3, 1, f32::NAN, 1.0), drag);
+    assert_eq!(player.slope_edit(s, k, 4, 0, 1.0), drag);
+    assert_eq!(player.slope_edit(s, k, 0, 0, f32::NAN), drag);
+    assert_eq!(player.slope_edit(s, k, 0, 0, 1.0), drag);
+    let none = Err(Refusal::Animation);
+    player.pose(s, None, 0.0).unwrap();
+    assert_eq!(player.open_drag(s, k, 3, 1), none);
+    assert_eq!(player.key_edit(s, k, 3, 1, 5.0, 9.0), none);
+    assert_eq!(player.slope_edit(s, k, 3, 1, 0.5), none);
+
+    // None is open and nothing active; 6 is no row of the three.
+    let (mut player, mut keys) = Player::load(s).unwrap();
+    let k = &mut keys;
+    assert_eq!(player.open_drag(s, k, 3, 1), none);
+    assert_eq!(player.drag(s, k, f32::NAN, 0.0), drag);
+    assert_eq!(player.drop_drag(s, k), drag);
+    assert_eq!(player.abandon_drag(s, k), drag);
+
+    // Nothing to undo or to redo, and a key or a track that the active animation doesn't have.
+    player.pose(s, Some(0), 0.0).unwrap();
+    assert_eq!(player.open_drag(s, k, 3, 2), Err(Refusal::NoSuch));
+    assert_eq!(player.open_drag(s, k, 4, 0), Err(Refusal::NoSuch));
+    assert_eq!(player.open_drag(s, k, 5, 0), Err(Refusal::NoSuch));
+    player.open_drag(s, k, 3, 1).unwrap();
+    assert_eq!(player.undo(s, k), drag);
+    assert_eq!(player.redo(s, k), drag);
 }

@@ -4,8 +4,12 @@ mod shown;
 mod state;
 mod tracks;
 
+use cli_calls::ABANDON;
 use cli_calls::Call;
+use cli_calls::DRAG;
+use cli_calls::DROP;
 use cli_calls::KEY;
+use cli_calls::OPEN;
 use cli_calls::PLAY;
 use cli_calls::POSE;
 use cli_calls::REDO;
@@ -41,6 +45,10 @@ fn change(
         KEY => menu::key_edit(p, s, frames, values, slopes, c.first, c.second, c.x, c.y),
         SLOPE => menu::slope_edit(p, s, frames, values, slopes, c.first, c.second, c.x),
         UNDO => menu::undo(p, s, frames, values, slopes),
+        OPEN => menu::open_drag(p, s, frames, values, slopes, c.first, c.second),
+        DRAG => menu::drag(p, s, frames, values, slopes, c.x, c.y),
+        DROP => menu::drop_drag(p, s, frames, values, slopes),
+        ABANDON => menu::abandon_drag(p, s, frames, values, slopes),
         _ => menu::redo(p, s, frames, values, slopes),
     }
 }
@@ -52,6 +60,10 @@ fn changes(verb: u8) -> bool {
         | (verb == SLOPE)
         | (verb == UNDO)
         | (verb == REDO)
+        | (verb == OPEN)
+        | (verb == DRAG)
+        | (verb == DROP)
+        | (verb == ABANDON)
 }
 
 fn say_tick(s: &[u8], animation: u16, answer: Tick) {

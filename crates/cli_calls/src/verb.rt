@@ -42,7 +42,15 @@ pub const PLAYER: u8 = 17;
 
 pub const SAVE: u8 = 18;
 
-pub const NO_VERB: u8 = 19;
+pub const OPEN: u8 = 19;
+
+pub const DRAG: u8 = 20;
+
+pub const DROP: u8 = 21;
+
+pub const ABANDON: u8 = 22;
+
+pub const NO_VERB: u8 = 23;
 
 // A verb's arguments begin at word `from`: so many whole numbers, then so many numbers.
 pub struct Verb {
@@ -138,6 +146,26 @@ fn showing_verb(line: &[u8]) -> Verb
     one(NO_VERB, 0, 0)
 }
 
+// The verbs of a drag, which holds one key.
+fn dragging_verb(line: &[u8]) -> Verb
+    ensures { λ r. ⌜ Few r ⌝ }
+{
+    let w = word(line, 0);
+    if same(w, b"open") {
+        return one(OPEN, 2, 0);
+    }
+    if same(w, b"drag") {
+        return one(DRAG, 0, 2);
+    }
+    if same(w, b"drop") {
+        return one(DROP, 0, 0);
+    }
+    if same(w, b"abandon") {
+        return one(ABANDON, 0, 0);
+    }
+    showing_verb(line)
+}
+
 // The verbs that change something; an empty line and a comment are nothing.
 pub fn verb_of(line: &[u8]) -> Verb
     ensures { λ r. ⌜ Few r ⌝ }
@@ -170,5 +198,5 @@ pub fn verb_of(line: &[u8]) -> Verb
     if same(w, b"redo") {
         return one(REDO, 0, 0);
     }
-    showing_verb(line)
+    dragging_verb(line)
 }

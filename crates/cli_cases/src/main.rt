@@ -1,4 +1,4 @@
-// First mistakes, files of every kind, and a sheet that is saved, on the command line: each case with a heading, and what it is answered.
+// First mistakes, files of every kind, sheets that are saved, and drags, on the command line: each case with a heading, and what it is answered.
 use cli_printed::say;
 use libc::STDIN_FILENO;
 
@@ -98,6 +98,14 @@ fn save_cases() {
     list(b"replay\nedited.sheet\ntitle.book", b"again.calls");
 }
 
+// A key is dragged and the sheet saved meanwhile; loaded again, the key is dragged back and dropped. In the last sheet a key has no room.
+fn drag_cases() {
+    list(b"replay\ntitle.sheet\ntitle.book", b"drag.calls");
+    case(b"check\ndragged.sheet");
+    list(b"replay\ndragged.sheet\ntitle.book", b"drop.calls");
+    list(b"replay\nclose.sheet\ntitle.book", b"close.calls");
+}
+
 fn main() {
     usage_cases();
     check_cases();
@@ -105,4 +113,5 @@ fn main() {
     number_cases();
     frame_cases();
     save_cases();
+    drag_cases();
 }

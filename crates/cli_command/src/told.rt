@@ -15,6 +15,7 @@ pub fn usage() {
     say(
         b"    play A, pose A FRAME, tick SECONDS FPS, key TRACK KEY FRAME VALUE, slope TRACK KEY SLOPE, undo, redo,\n",
     );
+    say(b"    open TRACK KEY, drag FRAME VALUE, drop, abandon,\n");
     say(
         b"    read pane P CHANNEL, read material M CHANNEL, read all, resolve pane P, resolve srt M LAYER, name M SLOT,\n",
     );

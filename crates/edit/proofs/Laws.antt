@@ -19,7 +19,7 @@ use Rattle.edit.specs.declared.request.Request.{Request}
 use Rattle.edit.specs.declared.request.Request.the-variants as request
 use Rattle.edit.specs.declared.spot.Spot.{Spot}
 use Rattle.edit.specs.Keys.{keys, keyAt}
-use Rattle.edit.specs.Edit.{editedFrame, editedValue, editedAt, clampedFrame, overtakes}
+use Rattle.edit.specs.Edit.{none, editedFrame, editedValue, editedAt, clampedFrame, overtakes}
 
 -- the place of a key fits, since a checked sheet has few keys
 pub spot-fits : {s : List ℕ} → Checked s → (track key : ℕ) (row : Target) → track < targetCount s → row ≡ targetRow s track → key < 65536 → row .first + key < 2 ^ 64
@@ -43,3 +43,10 @@ over-is fs p x y d m e = ap (lt (getD fs (p .at + 1) nan)) e ∙ all (eqb (p .cu
   where
     all : (a b t : Bool) → a ≡ false → b ≡ true → t ≡ (not a && b && t)
     all a b t h k = rw (h, k)
+
+-- a selection is none, or is not
+pub is-none : {a : ℕ} → a ≡ none → not (eqb a none) ≡ false
+is-none e = rw e
+
+pub not-none : {a : ℕ} → (a ≡ none → ⊥) → not (eqb a none) ≡ true
+not-none {a} d = rw (ne-eqb a none d)

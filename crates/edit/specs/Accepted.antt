@@ -1,5 +1,5 @@
 -- An accepted edit keeps the key rules: the key that it makes is within the bounds of its place and fits there (document 01, "Playing and editing": the
--- clamp, and rows 6 to 10 of the table). The order of a sum and its term is known of f32 values alone: frames that binary32 holds, as each element of
+-- clamp, and rows 6 to 10 of the table), be it an edit's or a drag's (document 02, 2/13). The order of a sum and its term is known of f32 values alone: frames that binary32 holds, as each element of
 -- a lent slice, and a request whose numbers it holds. An edit of f32 leaves f32. Assumes nothing.
 use Prim.Native.Nat.{ℕ, _+_, _-_, _<_}
 use mathlib.Core.Path.{_≡_, refl, _∙_}
@@ -12,7 +12,7 @@ use lib.ListN.{getD}
 use lib.Ieee.{Float, nan, binary32, lt, eq, le, fits, ofBits}
 use lib.Ieee.Fits.{add-fits, sub-fits, cond-fits}
 use Rattle.laws.specs.Tests.{both, and-1, and-2, T-true, true-T}
-use Rattle.laws.specs.Rows.{declines, held, first-held, hold-at, row-in}
+use Rattle.laws.specs.Rows.{Hold, declines, held, first-held, hold-at, row-in}
 use Rattle.float.specs.Numbers.{zero', _⊕_, _⊖_, real, finite, sameBits}
 use Rattle.float.specs.Bits.{finite-real, real-number}
 use Rattle.float.specs.Rank.{rank, eq-rank, le-real, le→, le-self, le-chain, lt-or-le}
@@ -202,13 +202,23 @@ unfolding fitsAt finiteNumbers
 fits-by fs p f v z a b c d e = rw (a, b, c, d, e)
 
 -- what a refusal of 0 says of the track and the key
-pub accepted-key : (s : List ℕ) (selection : ℕ) (ks : Keys) (track key : ℕ) (r : Request) → declines (editRows s selection ks track key r) ≡ 0
-    → (hasKey s track key ≡ true) × (declines (requestRows (ks .frames) (spotOf s track key) r) ≡ 0)
-unfolding editRows keyIn
-accepted-key s selection ks track key r e =
-    let k = first-held (trackRows s selection track key) _ tt e in
-    let h : keyIn s selection track key ≡ true = hold-at 7 (trackRows s selection track key) (search row-in) (k .0) in
-    (and-1 (hasKey s track key) _ h, k .1)
+module _ (s : List ℕ) (selection : ℕ) (dragging : Bool) (track key : ℕ) where
+  tracked : Hold (trackRows s selection dragging track key) → hasKey s track key ≡ true
+  unfolding keyIn trackRows
+  tracked k =
+      let h : keyIn s selection track key ≡ true = hold-at 7 (trackRows s selection dragging track key) (search row-in) k in
+      and-1 (hasKey s track key) _ h
+
+  pub tracked-key : declines (trackRows s selection dragging track key) ≡ 0 → hasKey s track key ≡ true
+  unfolding trackRows
+  tracked-key e = tracked (held (trackRows s selection dragging track key) tt e)
+
+  pub accepted-key : (ks : Keys) (r : Request) → declines (editRows s selection dragging ks track key r) ≡ 0
+      → (hasKey s track key ≡ true) × (declines (requestRows (ks .frames) (spotOf s track key) r) ≡ 0)
+  unfolding editRows trackRows
+  accepted-key ks r e =
+      let k = first-held (trackRows s selection dragging track key) _ tt e in
+      (tracked (k .0), k .1)
 
 -- ---- an accepted edit
 module _ {s : List ℕ} (w : Checked s) (ks : Keys) (ok : keysOkOf s ks ≡ true) (hf : Held (ks .frames)) (track key : ℕ) (lt' : track < targetCount s) (lk : key < targetRow s track .count) where
@@ -287,16 +297,15 @@ module _ {s : List ℕ} (w : Checked s) (ks : Keys) (ok : keysOkOf s ks ≡ true
   request-fits (request.Key x v) h e = unfold spotOf in key-fits x v (h .0) e
   request-fits (request.Slope m) h e = unfold spotOf in slope-fits m e
 
-module _ {s : List ℕ} (w : Checked s) (ks : Keys) (ok : keysOkOf s ks ≡ true) (hf : Held (ks .frames)) (selection track key : ℕ) (r : Request) (hr : HeldRequest r) (e : declines (editRows s selection ks track key r) ≡ 0) where
-  abbrev allowed : (hasKey s track key ≡ true) × (declines (requestRows (ks .frames) (spotOf s track key) r) ≡ 0)
-  allowed = accepted-key s selection ks track key r e
-
+-- of a key that the sheet has, by a request that none of its own rows declines: an edit's and a drag's
+module _ {s : List ℕ} (w : Checked s) (ks : Keys) (ok : keysOkOf s ks ≡ true) (hf : Held (ks .frames)) (track key : ℕ) (has : hasKey s track key ≡ true)
+    (r : Request) (hr : HeldRequest r) (e : declines (requestRows (ks .frames) (spotOf s track key) r) ≡ 0) where
   abbrev there : (track < targetCount s) × (key < targetRow s track .count)
-  there = has-key s track key (allowed .0)
+  there = has-key s track key has
 
-  -- the key that an accepted edit makes fits in its place
+  -- the key that it makes fits in its place
   pub edit-fits : fitsAt (ks .frames) (spotOf s track key) (edited s ks track key r) ≡ true
-  edit-fits = request-fits w ks ok hf track key (there .0) (there .1) r hr (allowed .1)
+  edit-fits = request-fits w ks ok hf track key (there .0) (there .1) r hr e
 
   -- so the keys that it leaves keep the key rules
   pub edit-keeps : keysOkOf s (putKey ks (place s track key) (edited s ks track key r)) ≡ true
@@ -319,7 +328,7 @@ request-held s ks track key (request.Slope m) k h e =
     let p = spotOf s track key in
     record { frame = k .frames (p .at); value = k .values (p .at); slope = h }
 
--- so the keys that an accepted edit leaves are f32 where those before it are
-pub edit-held : (s : List ℕ) (ks : Keys) (selection track key : ℕ) (r : Request) → HeldKeys ks → HeldRequest r → declines (editRows s selection ks track key r) ≡ 0
+-- so the keys that an accepted request leaves are f32 where those before it are
+pub edit-held : (s : List ℕ) (ks : Keys) (track key : ℕ) (r : Request) → HeldKeys ks → HeldRequest r → declines (requestRows (ks .frames) (spotOf s track key) r) ≡ 0
     → HeldKeys (putKey ks (place s track key) (edited s ks track key r))
-edit-held s ks selection track key r k h e = put-held ks (place s track key) _ k (request-held s ks track key r k h (accepted-key s selection ks track key r e .1))
+edit-held s ks track key r k h e = put-held ks (place s track key) _ k (request-held s ks track key r k h e)

@@ -1,5 +1,5 @@
 -- Edits of one key (document 01, "Playing and editing"; the Rust's apply_key_edit and apply_slope_edit): where the key is, the key that a request
--- makes, and when it is declined (rows 6 to 10 of the table). Definitions only.
+-- makes, and when it is declined (rows 6 to 10 and 15 of the table). Definitions only.
 use Prim.Native.Nat.{ℕ, _+_, _-_}
 use mathlib.Core.Bool.{Bool, not, _&&_, cond}
 use mathlib.Core.List.{List, [], _∷_, _++_}
@@ -89,10 +89,11 @@ requestRows fs p (request.Slope m) = row 8 (finite m) ∷ row 10 (eqb (p .curve)
 unfoldable pub keyIn : List ℕ → ℕ → ℕ → ℕ → Bool
 keyIn s animation track key = hasKey s track key && eqb (contentRow s (targetRow s track .content) .animation) animation
 
--- rows 6 and 7: nothing active; the track is not in the active animation, or no such key
-abbrev pub trackRows : List ℕ → ℕ → ℕ → ℕ → List Row
-trackRows s selection track key = row 6 (not (eqb selection none)) ∷ row 7 (keyIn s selection track key) ∷ []
+-- rows 6, 15 and 7, `dragging` saying whether a drag is open: nothing active; a drag is open (document 02, 2/13: "checked after 6"); the track is not in the
+-- active animation, or no such key
+unfoldable pub trackRows : List ℕ → ℕ → Bool → ℕ → ℕ → List Row
+trackRows s selection dragging track key = row 6 (not (eqb selection none)) ∷ row 15 (not dragging) ∷ row 7 (keyIn s selection track key) ∷ []
 
 -- and then the request's own
-unfoldable pub editRows : List ℕ → ℕ → Keys → ℕ → ℕ → Request → List Row
-editRows s selection ks track key r = trackRows s selection track key ++ requestRows (ks .frames) (spotOf s track key) r
+unfoldable pub editRows : List ℕ → ℕ → Bool → Keys → ℕ → ℕ → Request → List Row
+editRows s selection dragging ks track key r = trackRows s selection dragging track key ++ requestRows (ks .frames) (spotOf s track key) r

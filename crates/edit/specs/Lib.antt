@@ -5,3 +5,4 @@ pub mod Spot
 pub mod Put
 pub mod Accepted
 pub mod Edits
+pub mod Over

@@ -1,17 +1,23 @@
 // What is asked of a key: the key that the request makes, and when it is declined.
+use crate::NONE;
 use crate::spot::Spot;
+use crate::spot::key_in;
 use curve::CONSTANT;
 use curve::HERMITE;
 use curve::Key;
 use curve::STEP;
 use laws::refusal::ACCEPTED;
 use laws::refusal::BAD_ARGUMENT;
+use laws::refusal::DRAG_STATE;
+use laws::refusal::NO_ANIMATION;
+use laws::refusal::NO_SUCH_ROW;
 use laws::refusal::NOT_HERMITE;
 use laws::refusal::PAST_NEXT_KEY;
 ghost use mathlib.Core.Path.{_≡_};
 ghost use Rattle.laws.specs.Rows.{declines};
+ghost use Rattle.sheet.specs.Checked.{Checked};
 ghost use Rattle.edit.specs.Keys.{lent};
-ghost use Rattle.edit.specs.Edit.{lowest, highest, clampedFrame, editedFrame, editedValue, editedAt, overtakes, requestRows};
+ghost use Rattle.edit.specs.Edit.{lowest, highest, clampedFrame, editedFrame, editedValue, editedAt, overtakes, requestRows, trackRows};
 ghost use Rattle.edit.specs.Spot.{Inside, InsideAll};
 
 // What is asked of a key: a frame and a value, or a slope.
@@ -94,6 +100,23 @@ pub fn edited(frames: &[f32], values: &[f32], slopes: &[f32], p: Spot, r: Reques
 }
 
 // ---- what is declined
+
+// Rows 6, 15 and 7: something is active, no drag is open, and the track is the active animation's and has the key.
+pub fn track_refusal(s: &[u8], selection: u16, dragging: bool, track: u16, key: u16) -> u8
+    requires { ⌜ Checked (now s) ⌝ }
+    ensures { λ r. ⌜ r ≡ declines (trackRows (now (s .entry)) selection dragging track key) ⌝ }
+{
+    if selection == NONE {
+        return NO_ANIMATION;
+    }
+    if dragging {
+        return DRAG_STATE;
+    }
+    if !key_in(s, selection, track, key) {
+        return NO_SUCH_ROW;
+    }
+    ACCEPTED
+}
 
 // Whether the clamped frame is above the next key's, which a Constant curve doesn't ask.
 fn overtakes(frames: &[f32], p: Spot, x: f32) -> bool

@@ -1,4 +1,4 @@
--- An edit that is not declined may be made. Assumes nothing.
+-- An edit or a drag that is not declined may be made. Assumes nothing.
 use Prim.Native.Nat.{ℕ, _<_}
 use mathlib.Core.Path.{_≡_}
 use mathlib.Core.Bool.{true}
@@ -10,18 +10,19 @@ use Rattle.sheet.specs.Rows.{targetRow}
 use Rattle.sheet.specs.Checked.{Checked, checked}
 use Rattle.keys.specs.Load.{arraysOk, lengthsOk}
 use Rattle.edit.specs.Keys.{Keys, put-length}
-use Rattle.edit.specs.Edit.{Edit, place, edited, spotOf, madeEdit, editRows}
+use Rattle.edit.specs.Edit.{Edit, hasKey, place, edited, spotOf, madeEdit, requestRows}
 use Rattle.edit.specs.Put.{has-key, place-within, here-fits, fits-same}
-use Rattle.edit.specs.Accepted.{HeldRequest, accepted-key, edit-fits, edit-keeps, edit-held}
+use Rattle.edit.specs.Accepted.{HeldRequest, edit-fits, edit-keeps, edit-held}
 use Rattle.menu.specs.Calls.{entryFor}
 use Rattle.machine.proofs.Invariant.{Sane, Fair}
 
-module _ (s : List ℕ) (ok : sheetOk s ≡ true) (ks : Keys) (sane : Sane s ks) (e : Edit) (held : HeldRequest (e .request)) (n : declines (editRows s (e .animation) ks (e .track) (e .key) (e .request)) ≡ 0) where
+module _ (s : List ℕ) (ok : sheetOk s ≡ true) (ks : Keys) (sane : Sane s ks) (e : Edit) (held : HeldRequest (e .request)) (has : hasKey s (e .track) (e .key) ≡ true)
+    (n : declines (requestRows (ks .frames) (spotOf s (e .track) (e .key)) (e .request)) ≡ 0) where
   abbrev w : Checked s
   w = checked s ok
 
   abbrev there : (e .track < targetCount s) × (e .key < targetRow s (e .track) .count)
-  there = has-key s (e .track) (e .key) (accepted-key s (e .animation) ks (e .track) (e .key) (e .request) n .0)
+  there = has-key s (e .track) (e .key) has
 
   -- an edit leaves the lengths
   long-kept : let made = madeEdit s ks e in lengthsOk s (made .frames) (made .values) (made .slopes) ≡ true
@@ -35,14 +36,14 @@ module _ (s : List ℕ) (ok : sheetOk s ≡ true) (ks : Keys) (sane : Sane s ks)
   allows =
       record {
         within = place-within w ks (sane .rules) (e .track) (e .key) (there .0) (there .1);
-        entry = accepted-key s (e .animation) ks (e .track) (e .key) (e .request) n .0;
+        entry = has;
         old = fits-same (ks .frames) (spotOf s (e .track) (e .key)) _ (here-fits w ks (sane .rules) (e .track) (e .key) (there .0) (there .1));
-        new = fits-same (ks .frames) (spotOf s (e .track) (e .key)) _ (edit-fits w ks (sane .rules) (sane .held .frames) (e .animation) (e .track) (e .key) (e .request) held n);
+        new = fits-same (ks .frames) (spotOf s (e .track) (e .key)) _ (edit-fits w ks (sane .rules) (sane .held .frames) (e .track) (e .key) has (e .request) held n);
         sane = sane;
         made =
             record {
               long = long-kept;
-              rules = edit-keeps w ks (sane .rules) (sane .held .frames) (e .animation) (e .track) (e .key) (e .request) held n;
-              held = edit-held s ks (e .animation) (e .track) (e .key) (e .request) (sane .held) held n;
+              rules = edit-keeps w ks (sane .rules) (sane .held .frames) (e .track) (e .key) has (e .request) held n;
+              held = edit-held s ks (e .track) (e .key) (e .request) (sane .held) held n;
             };
       }

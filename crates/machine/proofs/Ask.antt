@@ -47,6 +47,6 @@ unfolding askRefusal
 ask-kept s n m j ok few g b q =
     record {
       journal = j;
-      same = rw (tell-is s b (image m j) (keysOf s m) q, ask-table s b (image m j) (keysOf s m) q, reading-passes s n m j ok (omega arith) g b (askRows b q));
+      same = rw (tell-is s b (image s m j) (keysOf s m) q, ask-table s b (image s m j) (keysOf s m) q, reading-passes s n m j ok (omega arith) g b (askRows b q));
       good = later s n m j g;
     }

@@ -10,15 +10,17 @@ use lib.ListN.{length}
 use Rattle.float.specs.Numbers.{finite}
 use Rattle.keys.specs.Load.{lengthsOk}
 use Rattle.player.specs.declared.Player.{Player}
+use Rattle.player.specs.declared.drag.Drag.{Drag}
 use Rattle.player.specs.declared.journal.Entry.{Entry}
 use Rattle.player.specs.declared.journal.Journal.{Journal}
 use Rattle.edit.specs.Keys.{Keys, HeldKeys, keyAt, Within, sameKey, keysOkOf}
 use Rattle.player.specs.Journal.{rowOf, withRow, Whole, row-other, rows}
 use Rattle.player.specs.Player.{selectionOk, entryOk}
 use Rattle.player.specs.Parts.{playerOf, View}
-use Rattle.edit.specs.Edit.{Edit, place, edited, madeEdit}
+use Rattle.player.specs.Drag.{noDrag, openedOn, movedOn}
+use Rattle.edit.specs.Edit.{Edit, hasKey, place, edited, madeEdit}
 use Rattle.menu.specs.Calls.{entryFor}
-use Rattle.machine.specs.Plain.{Plain, replay, keysOf}
+use Rattle.machine.specs.Plain.{Dragging, closed, opened, dragged, draggedTo, Plain, replay, standingKeys}
 
 -- keys as each call finds and leaves them: as long as the sheet says, within the key rules, and f32 in all three arrays, as a lent slice is
 pub record Sane (s : List ℕ) (ks : Keys) : Type 0 where
@@ -51,14 +53,26 @@ abbrev pub Fore : List ℕ → Journal → Keys → List Edit → List Edit → 
 Fore s j ks es [] = Unit {0}
 Fore s j ks es (e ∷ us) = JournalRow s j ks es e × Fore s j ks (e ∷ es) us
 
+-- a drag that a call may find, over the standing keys
+abbrev pub Holds : List ℕ → Keys → Dragging → Type 0
+Holds s ks closed = Unit {0}
+Holds s ks (opened a track key) = hasKey s track key ≡ true
+Holds s ks (dragged a track key x v) = Fair s ks (draggedTo a track key x v)
+
 -- a view that a call may find
 pub record Seen (s : List ℕ) (v : View) : Type 0 where
   pub selection : selectionOk s (v .selection) ≡ true
   pub frame : finite (v .frame) ≡ true
 
+-- the drag that stands for the machine's: its starting key is the standing keys'
+abbrev pub dragImage : List ℕ → Keys → Dragging → Drag
+dragImage s ks closed = noDrag
+dragImage s ks (opened a track key) = openedOn track key (keyAt ks (place s track key))
+dragImage s ks (dragged a track key x v) = movedOn (openedOn track key (keyAt ks (place s track key)))
+
 -- the player that stands for the machine m with the journal j
-abbrev pub image : Plain → Journal → Player
-image m j =
+abbrev pub image : List ℕ → Plain → Journal → Player
+image s m j =
     playerOf (m .view)
     (record {
       reach = m .reach;
@@ -69,11 +83,13 @@ image m j =
       standing = length (m .standing);
       journal = j;
     })
+    (dragImage s (standingKeys s m) (m .drag))
 
 -- after n calls
 pub record Good (s : List ℕ) (n : ℕ) (m : Plain) (j : Journal) : Type 0 where
   pub whole : Whole j
-  pub sane : Sane s (keysOf s m)
+  pub sane : Sane s (standingKeys s m)
+  pub drag : Holds s (standingKeys s m) (m .drag)
   pub seen : Seen s (m .view)
   pub back : Back s j (m .loaded) (m .standing) (m .reach)
   pub fore : Fore s j (m .loaded) (m .standing) (m .redo)

@@ -15,7 +15,7 @@ use Rattle.machine.proofs.Invariant.{Seen, image, Good}
 
 -- the player with its keys that stands for the machine
 abbrev pub stateOf : List ℕ → Plain → Journal → State
-stateOf s m j = record { player = image m j; keys = keysOf s m }
+stateOf s m j = record { player = image s m j; keys = keysOf s m }
 
 -- one call keeps it so
 pub record Kept (s : List ℕ) (n : ℕ) (c : Call) (m : Plain) (j : Journal) : Type 0 where
@@ -33,11 +33,11 @@ module _ (s : List ℕ) (n : ℕ) (m : Plain) (j : Journal) (g : Good s n m j) w
   -- another view
   pub viewed-good : (v : View) → Seen s v → Good s (suc n) (viewed m v) j
   viewed-good v w =
-      record { whole = g .whole; sane = g .sane; seen = w; back = g .back; fore = g .fore; room = g .room; below = g .below; sums = g .sums; few = omega arith }
+      record { whole = g .whole; sane = g .sane; drag = g .drag; seen = w; back = g .back; fore = g .fore; room = g .room; below = g .below; sums = g .sums; few = omega arith }
 
   -- nothing
   pub later : Good s (suc n) m j
-  later = record { whole = g .whole; sane = g .sane; seen = g .seen; back = g .back; fore = g .fore; room = g .room; below = g .below; sums = g .sums; few = omega arith }
+  later = record { whole = g .whole; sane = g .sane; drag = g .drag; seen = g .seen; back = g .back; fore = g .fore; room = g .room; below = g .below; sums = g .sums; few = omega arith }
 
   pub moved-good : (k : ℕ) (v : View) → (k ≡ 0 → Seen s v) → Good s (suc n) (moves k m v .0) j
   moved-good zero v w = viewed-good v (w refl)
@@ -46,7 +46,7 @@ module _ (s : List ℕ) (n : ℕ) (m : Plain) (j : Journal) (g : Good s n m j) w
 -- the two sides of a call that moves the view, by its refusal
 pub moved : (s : List ℕ) (k : ℕ) (m : Plain) (j : Journal) (v : View) →
     _≡_ {A = State × Answer}
-    (record { player = cond (eqb k 0) (image (viewed m v) j) (image m j); keys = keysOf s m }, number k)
+    (record { player = cond (eqb k 0) (image s (viewed m v) j) (image s m j); keys = keysOf s m }, number k)
     (stateOf s (moves k m v .0) j, moves k m v .1)
 moved s zero m j v = refl
 moved s (suc k) m j v = rw (suc-not k)

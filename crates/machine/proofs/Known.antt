@@ -41,13 +41,18 @@ use Rattle.channel.specs.Channel.{familyOf, listed, paneChannel, colourPlace, s
 use Rattle.reading.specs.Reading.{valueAt, value16At, levelOf, rowOf, rowReading, targetReading, lastTarget, reading}
 use Rattle.resolve.specs.Resolve.{paneNumber, visibleOf, alphaOf}
 use Rattle.resolve.specs.Cascade.{under, above, rowFrom, cascade, visibles, alphas, influences}
-use Rattle.edit.specs.Keys.{keyAt, putKey}
+use Rattle.edit.specs.Keys.{keyAt, putKey, sameKey}
 use Rattle.player.specs.Player.{freshPlayer, selectionOk, usedOk, countsOk, playerOk}
-use Rattle.edit.specs.Edit.{hasKey, place, spotOf, lowest, highest, clampedFrame, editedFrame, editedValue, editedAt, edited, overtakes, requestRows, keyIn, editRows}
+use Rattle.edit.specs.Edit.{hasKey, place, spotOf, lowest, highest, clampedFrame, editedFrame, editedValue, editedAt, edited, overtakes, requestRows, keyIn, trackRows, editRows}
+use Rattle.player.specs.Journal as journal
+use Rattle.player.specs.Drag.{dragOk, putBack, dragFits}
+use Rattle.player.specs.Edited.{editedPlayer}
+use Rattle.player.specs.Dragged.{droppedPlayer}
+use Rattle.player.specs.Undo.{entryOf, takesOk, takeFits, takeRows, takenKeys, undonePlayer}
 use Rattle.player.specs.View.{playView, poseView, ticks, tickSum, countOf, wraps, tickFrame, tickMoves, tickEnds, endOf, tickView, tickAnswer}
-use Rattle.menu.specs.Rows.{playRows, poseRows, tickRows, saveRows, playTable, poseTable, tickTable, editTable, saveTable, nextNameTable}
+use Rattle.menu.specs.Rows.{playRows, poseRows, tickRows, saveRows, playTable, poseTable, tickTable, editTable, takeTable, dragRows, openTable, dragTable, closeTable, saveTable, nextNameTable}
 use Rattle.menu_readings.specs.Rows.{paneChannelRows, materialChannelRows, cascadeRows, readPaneTable, readMaterialTable, cascadeTable}
-use Rattle.menu.specs.Calls.{playOf, poseOf, tickOf, editOf, loadedOf, writtenBy, saveOf, nextNameOf}
+use Rattle.menu.specs.Calls.{playOf, poseOf, tickOf, entryFor, editOf, takeOf, openOf, dragOf, dropOf, abandonOf, loadedOf, writtenBy, saveOf, nextNameOf}
 use Rattle.menu_readings.specs.Readings.{activeIn, oneOf, cascadedOf, readPaneOf, readMaterialOf, cascadeOf}
 use Rattle.machine.specs.Small as small
 use Rattle.machine.specs.Poses as poses
@@ -85,15 +90,15 @@ unfolding familyOf listed paneChannel colourPlace slotChannel materialChannel of
 readings = tt
 
 player : Unit {0}
-unfolding keyAt putKey freshPlayer selectionOk hasKey usedOk countsOk playerOk playView poseView ticks tickSum countOf wraps tickFrame tickMoves tickEnds endOf tickView tickAnswer place spotOf lowest highest clampedFrame editedFrame editedValue editedAt edited overtakes requestRows keyIn editRows
+unfolding keyAt putKey freshPlayer selectionOk hasKey usedOk countsOk playerOk playView poseView ticks tickSum countOf wraps tickFrame tickMoves tickEnds endOf tickView tickAnswer place spotOf lowest highest clampedFrame editedFrame editedValue editedAt edited overtakes requestRows keyIn trackRows editRows dragOk putBack dragFits editedPlayer droppedPlayer journal.rowOf journal.withRow sameKey entryOf takesOk takeFits takeRows takenKeys undonePlayer
 player = tt
 
 calls : Unit {0}
-unfolding playRows poseRows tickRows saveRows paneChannelRows materialChannelRows cascadeRows playTable poseTable tickTable editTable saveTable nextNameTable readPaneTable readMaterialTable cascadeTable playOf poseOf tickOf editOf loadedOf writtenBy saveOf nextNameOf activeIn oneOf cascadedOf readPaneOf readMaterialOf cascadeOf
+unfolding playRows poseRows tickRows saveRows paneChannelRows materialChannelRows cascadeRows playTable poseTable tickTable editTable takeTable openTable dragRows dragTable closeTable saveTable nextNameTable readPaneTable readMaterialTable cascadeTable playOf poseOf tickOf editOf entryFor takeOf openOf dragOf dropOf abandonOf loadedOf writtenBy saveOf nextNameOf activeIn oneOf cascadedOf readPaneOf readMaterialOf cascadeOf
 calls = tt
 
 pose-table : Unit {0}
-unfolding small.over small.below small.minus small.whole small.u16 small.f32 small.name small.allKeys small.contents small.targets small.frames small.points small.sheet small.followed small.following small.pane small.book poses.bits poses.told poses.readOne poses.met poses.ticked poses.seen poses.played poses.loaded poses.posed poses.playing poses.viewing poses.readPane poses.readMaterial poses.paneTrack poses.colourTrack poses.moves poses.still poses.shows poses.colours poses.fades poses.curveAt poses.tickAt poses.playFrom5 poses.poseFrom5 poses.tickOn poses.endFrom poses.readBy poses.editTo poses.slopes poses.saveInto poses.uvUnder poses.topLeft poses.childAlpha poses.shared poses.poses poses.same poses.right
+unfolding small.over small.below small.minus small.whole small.u16 small.f32 small.name small.allKeys small.contents small.targets small.frames small.points small.sheet small.followed small.following small.pane small.book poses.bits poses.told poses.readOne poses.met poses.ticked poses.seen poses.counted poses.played poses.loaded poses.posed poses.playing poses.viewing poses.readPane poses.readMaterial poses.paneTrack poses.colourTrack poses.moves poses.still poses.shows poses.colours poses.fades poses.curveAt poses.tickAt poses.playFrom5 poses.poseFrom5 poses.tickOn poses.endFrom poses.readBy poses.editTo poses.slopes poses.saveInto poses.dragged poses.uvUnder poses.topLeft poses.childAlpha poses.shared poses.poses poses.same poses.right
 pose-table = tt
 
 pub known : T (poses.right poses.poses)

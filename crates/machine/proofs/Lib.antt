@@ -1,6 +1,7 @@
 -- The laws that the proofs of this crate cite.
 pub mod Simulates
 pub mod Invariant
+pub mod Dragged
 pub mod Checks
 pub mod Allows
 pub mod Kept
@@ -10,6 +11,8 @@ pub mod Tick
 pub mod Edit
 pub mod Undo
 pub mod Redo
+pub mod Take
+pub mod Drag
 pub mod Ask
 pub mod Save
 pub mod Steps

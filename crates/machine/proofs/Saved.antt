@@ -1,7 +1,7 @@
 -- Saving after any list of calls (document 02, 1/13), under the premises of the claim on standing edits: "a sheet with no standing edit is written as the
--- same bytes, and loading a written sheet gives the keys held". Assumes nothing.
+-- same bytes" (which, by 2/13, "also needs no open drag"), "and loading a written sheet gives the keys held". Assumes nothing.
 use mathlib.Core.Path.{_≡_, refl, sym, _∙_, ap, subst}
-use mathlib.Core.Bool.{true}
+use mathlib.Core.Bool.{true, false, false≢true}
 use mathlib.Core.List.{List, [], _∷_}
 use Prim.Native.Nat.{ℕ, _≤_, _^_}
 use native.Mathlib.Omega.{arith}
@@ -20,6 +20,7 @@ use Rattle.keys.specs.Stored.{storedFrames, storedValues, storedSlopes}
 use Rattle.keys.specs.Load.{arraysOk, loadTable, loadOf}
 use Rattle.keys.specs.Loading.{loadable}
 use Rattle.saved.specs.Back.{saved-long, saved-alike, saved-again, saved-frames, saved-values, saved-slopes, saved-same}
+use Rattle.player.specs.declared.drag.Drag.{Drag}
 use Rattle.player.specs.Player.{freshPlayer}
 use Rattle.edit.specs.Keys.{Keys, keys}
 use Rattle.edit.specs.Edit.{Edit}
@@ -27,8 +28,9 @@ use Rattle.menu.specs.Rows.{saveRows, saveTable}
 use Rattle.menu.specs.Calls.{Changed, wrote, writtenBy, savedWith, saveOf, loadedOf}
 use Rattle.machine.specs.Runs.{last, Each}
 use Rattle.machine.specs.Calls.{Call, HeldCall, State, stepP}
-use Rattle.machine.specs.Plain.{Plain, replay, keysOf, stepM, freshM}
-use Rattle.machine.proofs.Invariant.{Sane, image}
+use Rattle.machine.specs.Plain.{Dragging, closed, opened, dragged, Plain, replay, standingKeys, withDragged, keysOf, stepM, freshM}
+use Rattle.machine.proofs.Invariant.{Sane, dragImage, image}
+use Rattle.machine.proofs.Dragged.{held-sane}
 use Rattle.machine.proofs.Checks.{state-passes}
 use Rattle.machine.proofs.Loaded.{not-declined, loaded-sheet, loaded-sane, loaded-keys}
 use Rattle.machine.proofs.Stays.{loaded-stays}
@@ -86,10 +88,10 @@ module _ (s : List ℕ) (arrays : Keys) (e : loadedOf s arrays .refusal ≡ 0) (
   r = related s ok (loadedOf s arrays .keys) (loaded-sane s arrays e) cs held few .0
 
   sane : Sane s (t .keys)
-  sane = rw (r .is) (r .good .sane)
+  sane = rw (r .is) (held-sane s (standingKeys s m) (m .drag) (r .good .sane) (r .good .drag))
 
   -- a buffer as long as the sheet is filled with the keys held
-  image-writes : (o : List ℕ) → length o ≡ length s → saveOf s (image m (r .journal)) (keysOf s m) o ≡ wrote 0 (savedWith s (keysOf s m))
+  image-writes : (o : List ℕ) → length o ≡ length s → saveOf s (image s m (r .journal)) (keysOf s m) o ≡ wrote 0 (savedWith s (keysOf s m))
   unfolding saveOf saveTable saveRows writtenBy
   image-writes o l =
       let none = passes 14 _ (eq-eqb (length o) (length s) l) no-rows in
@@ -103,19 +105,24 @@ module _ (s : List ℕ) (arrays : Keys) (e : loadedOf s arrays .refusal ≡ 0) (
       → loadedOf (saveOf s (t .player) (t .keys) o .out) room ≡ record { refusal = 0; player = freshPlayer; keys = t .keys }
   a-written-sheet-loads o l room f v z = rw (save-writes o l) (written-loads s ok (t .keys) sane room f v z)
 
-  -- with no standing edit, it is the loaded sheet. (`Bytes`: the sheet's elements are bytes, as those of a lent slice are; a list here holds numbers.)
-  pub an-untouched-sheet-is-the-same : Bytes s → t .player .standing ≡ 0 → (o : List ℕ) → length o ≡ length s → saveOf s (t .player) (t .keys) o ≡ wrote 0 s
+  -- with no standing edit and no open drag, it is the loaded sheet. (`Bytes`: the sheet's elements are bytes, as those of a lent slice are; a list here holds numbers.)
+  pub an-untouched-sheet-is-the-same : Bytes s → t .player .standing ≡ 0 → t .player .drag .«open» ≡ false → (o : List ℕ) → length o ≡ length s → saveOf s (t .player) (t .keys) o ≡ wrote 0 s
   unfolding replay loadedOf
-  an-untouched-sheet-is-the-same b none o l = save-writes o l ∙ ap (wrote 0) (ap (savedWith s) own ∙ saved-same s b (loadable s _ _ _ (not-declined s arrays e) .stored))
+  an-untouched-sheet-is-the-same b none shut o l = save-writes o l ∙ ap (wrote 0) (ap (savedWith s) own ∙ saved-same s b (loadable s _ _ _ (not-declined s arrays e) .stored))
     where
       empty : (es : List Edit) → length es ≡ 0 → replay s (m .loaded) es ≡ m .loaded
       empty [] q = refl
       empty (e ∷ es) q = absurd (omega arith)
 
+      unheld : (ks : Keys) (d : Dragging) → dragImage s ks d .«open» ≡ false → withDragged s ks d ≡ ks
+      unheld ks closed q = refl
+      unheld ks (opened a track key) q = refl
+      unheld ks (dragged a track key x v) q = absurd (false≢true (sym q))
+
       own : t .keys ≡ keys (storedFrames s) (storedValues s) (storedSlopes s)
       own =
           let a = the-player-is-the-machine s ok (loadedOf s arrays .keys) (loaded-sane s arrays e) cs held few .0 in
-          a .keys ∙ empty (m .standing) (sym (a .standing) ∙ none) ∙ loaded-stays s cs (freshM (loadedOf s arrays .keys)) ∙ loaded-keys s arrays e
+          a .keys ∙ unheld (standingKeys s m) (m .drag) (ap (λ (d : Drag). d .«open») (sym (a .drag)) ∙ shut) ∙ empty (m .standing) (sym (a .standing) ∙ none) ∙ loaded-stays s cs (freshM (loadedOf s arrays .keys)) ∙ loaded-keys s arrays e
 
 -- ---- saving, loading and saving again gives the same sheet
 module _ (s : List ℕ) (ok : sheetOk s ≡ true) (ks : Keys) (w : Sane s ks) (room : Keys) (f : length (room .frames) ≡ keyCount s) (v : length (room .values) ≡ keyCount s) (z : length (room .slopes) ≡ keyCount s) where

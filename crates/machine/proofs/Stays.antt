@@ -5,14 +5,15 @@ use Prim.Native.Nat.{ℕ, zero, suc}
 use lib.ListN.{length}
 use lib.Ieee.{Float}
 use Rattle.laws.specs.Rows.{declines}
-use Rattle.edit.specs.Edit.{Edit, editRows}
+use Rattle.edit.specs.declared.request.Request.the-variants as request
+use Rattle.edit.specs.Edit.{Edit, spotOf, requestRows, trackRows, editRows}
 use Rattle.player.specs.Parts.{View}
 use Rattle.player.specs.View.{playView, poseView}
 use Rattle.player.specs.Undo.{someRows}
 use Rattle.menu.specs.Rows.{playRows, poseRows, tickRows}
 use Rattle.machine.specs.Runs.{last}
-use Rattle.machine.specs.Calls.{Call, play, pose, tick, edit, undo, redo, ask, save}
-use Rattle.machine.specs.Plain.{Plain, keysOf, moves, ticksOn, edits, undoes, redoes, asked, stepM}
+use Rattle.machine.specs.Calls.{Call, play, pose, tick, edit, undo, redo, openDrag, drag, dropDrag, abandonDrag, ask, save}
+use Rattle.machine.specs.Plain.{Dragging, closed, opened, dragged, isOpen, Plain, keysOf, moves, ticksOn, edits, undoes, redoes, holds, drags, drops, abandons, asked, stepM}
 
 -- by the refusal, and for undo and redo by the list that they take from
 module _ (m : Plain) where
@@ -38,13 +39,36 @@ module _ (m : Plain) where
   redone zero (e ∷ es) = refl
   redone (suc n) es = refl
 
+  held : (n : ℕ) (d : Dragging) → holds n m d .0 .loaded ≡ m .loaded
+  held zero d = refl
+  held (suc n) d = refl
+
+  moved-on : (s : List ℕ) (x v : Float) (d : Dragging) → drags s m x v d .0 .loaded ≡ m .loaded
+  moved-on s x v closed = refl
+  moved-on s x v (opened a track key) = held (declines (requestRows (keysOf s m .frames) (spotOf s track key) (request.Key x v))) (dragged a track key x v)
+  moved-on s x v (dragged a track key y w) = held (declines (requestRows (keysOf s m .frames) (spotOf s track key) (request.Key x v))) (dragged a track key x v)
+
+  dropped : (d : Dragging) → drops m d .0 .loaded ≡ m .loaded
+  dropped closed = refl
+  dropped (opened a track key) = refl
+  dropped (dragged a track key x v) = refl
+
+  abandoned : (d : Dragging) → abandons m d .0 .loaded ≡ m .loaded
+  abandoned closed = refl
+  abandoned (opened a track key) = refl
+  abandoned (dragged a track key x v) = refl
+
 step-stays : (s : List ℕ) (c : Call) (m : Plain) → stepM s c m .0 .loaded ≡ m .loaded
 step-stays s (play a) m = moved m (declines (playRows s a)) (playView a (m .view))
 step-stays s (pose a x) m = moved m (declines (poseRows x)) (poseView s a x)
 step-stays s (tick dt fps) m = ticked m (declines (tickRows s (m .view) dt fps)) s dt fps
-step-stays s (edit track key r) m = edited m (declines (editRows s (m .view .selection) (keysOf s m) track key r)) (asked m track key r)
-step-stays s undo m = undone m (declines (someRows (m .reach))) (m .standing)
-step-stays s redo m = redone m (declines (someRows (length (m .redo)))) (m .redo)
+step-stays s (edit track key r) m = edited m (declines (editRows s (m .view .selection) (isOpen (m .drag)) (keysOf s m) track key r)) (asked m track key r)
+step-stays s undo m = undone m (declines (someRows (isOpen (m .drag)) (m .reach))) (m .standing)
+step-stays s redo m = redone m (declines (someRows (isOpen (m .drag)) (length (m .redo)))) (m .redo)
+step-stays s (openDrag track key) m = held m (declines (trackRows s (m .view .selection) (isOpen (m .drag)) track key)) (opened (m .view .selection) track key)
+step-stays s (drag x v) m = moved-on m s x v (m .drag)
+step-stays s dropDrag m = dropped m (m .drag)
+step-stays s abandonDrag m = abandoned m (m .drag)
 step-stays s (ask b q) m = refl
 step-stays s (save o) m = refl
 

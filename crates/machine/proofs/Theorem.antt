@@ -15,18 +15,20 @@ use Rattle.player.specs.Player.{freshPlayer, selectionOk}
 use Rattle.player.specs.Parts.{viewOf}
 use Rattle.machine.specs.Runs.{last, answers, Each}
 use Rattle.machine.specs.Calls.{Call, HeldCall, State, stepP}
-use Rattle.machine.specs.Plain.{Plain, replay, stepM, freshM}
+use Rattle.machine.specs.Plain.{Plain, replay, standingKeys, withDragged, stepM, freshM}
 use Rattle.menu.specs.Calls.{loadedOf}
 use Rattle.machine.proofs.Loaded.{loaded-sheet, loaded-sane}
 use Rattle.machine.proofs.Simulates.{runs}
-use Rattle.machine.proofs.Invariant.{Sane, Good}
+use Rattle.machine.proofs.Invariant.{Sane, dragImage, Good}
 use Rattle.machine.proofs.Kept.{stateOf}
 use Rattle.machine.proofs.Steps.{step-kept}
 
 -- the player with its keys is the machine
 pub record Agree (s : List ℕ) (t : State) (m : Plain) : Type 0 where
-  pub keys : t .keys ≡ replay s (m .loaded) (m .standing)
+  -- the standing edits in order, then an open drag's last accepted request
+  pub keys : t .keys ≡ withDragged s (replay s (m .loaded) (m .standing)) (m .drag)
   pub view : viewOf (t .player) ≡ m .view
+  pub drag : t .player .drag ≡ dragImage s (standingKeys s m) (m .drag)
   pub reach : t .player .reach ≡ m .reach
   pub redo : t .player .redo ≡ length (m .redo)
   pub standing : t .player .standing ≡ length (m .standing)
@@ -60,6 +62,7 @@ module _ (s : List ℕ) (ok : sheetOk s ≡ true) where
             record {
               whole = whole-empty;
               sane = w;
+              drag = tt;
               seen = record { selection = refl; frame = refl };
               back = tt;
               fore = tt;
@@ -84,6 +87,7 @@ module _ (s : List ℕ) (ok : sheetOk s ≡ true) where
           record {
             keys = ap (λ t. t .keys) i;
             view = ap (λ t. viewOf (t .player)) i;
+            drag = ap (λ t. t .player .drag) i;
             reach = ap (λ t. t .player .reach) i;
             redo = ap (λ t. t .player .redo) i;
             standing = ap (λ t. t .player .standing) i;
@@ -97,8 +101,8 @@ module _ (s : List ℕ) (ok : sheetOk s ≡ true) where
         )
 
 -- Demand 3, whole. Load any sheet into any arrays; where that is not declined, make any list of at most 2^40 calls, refused ones, damaged books,
--- NaNs and outputs of every length included: the keys are the loaded ones with the standing edits made in order, counts, selection, playing,
--- preview and frame are the plain machine's, standing is the standing list's length, accepted + redone = undone + standing, reach is at most 128,
+-- NaNs and outputs of every length included: the keys are the loaded ones with the standing edits made in order and then, while a drag is open, its last
+-- accepted request; drag, counts, selection, playing, preview and frame are the plain machine's, standing is the standing list's length, accepted + redone = undone + standing, reach is at most 128,
 -- and every answer with every output is the machine's, a tick's next name too.
 pub standing-edits-decide : (s : List ℕ) (arrays : Keys) → loadedOf s arrays .refusal ≡ 0 → (cs : List Call) → Each HeldCall cs → length cs ≤ 2 ^ 40
     → Agree s (last (stepP s) cs (record { player = loadedOf s arrays .player; keys = loadedOf s arrays .keys })) (last (stepM s) cs (freshM (loadedOf s arrays .keys)))

@@ -66,8 +66,8 @@ module _ (s : List ℕ) (n : ℕ) (m : Plain) (j : Journal) (ok : sheetOk s ≡ 
 
       by-refusal : (k : ℕ) →
           _≡_ {A = State × Answer} (
-            record { player = cond (eqb k 0) (image (viewed m v) j) (image m j); keys = keysOf s m },
-            ticked k (cond (eqb k 0) t Idle) (onNext (cond (eqb k 0) t Idle) (nextNameOf s (cond (eqb k 0) (image (viewed m v) j) (image m j) .selection))),
+            record { player = cond (eqb k 0) (image s (viewed m v) j) (image s m j); keys = keysOf s m },
+            ticked k (cond (eqb k 0) t Idle) (onNext (cond (eqb k 0) t Idle) (nextNameOf s (cond (eqb k 0) (image s (viewed m v) j) (image s m j) .selection))),
           )
           (stateOf s (ticksOn k s dt fps m .0) j, ticksOn k s dt fps m .1)
       by-refusal zero = rw (same-name t (nextNameOf s (v .selection)) (nextName s (m .view .selection)) (next-named s dt fps (m .view) ok (g .seen .selection)))

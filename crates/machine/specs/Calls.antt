@@ -13,7 +13,7 @@ use Rattle.edit.specs.Accepted.{HeldRequest}
 use Rattle.menu.specs.declared.playing.Played.{Played}
 use Rattle.menu.specs.declared.playing.Ticked.{Ticked}
 use Rattle.machine.specs.Asks.{Ask, Told, tellOf}
-use Rattle.menu.specs.Calls.{Changed, Written, playOf, poseOf, tickOf, editOf, undoOf, redoOf, saveOf, nextNameOf}
+use Rattle.menu.specs.Calls.{Changed, Written, playOf, poseOf, tickOf, editOf, undoOf, redoOf, openOf, dragOf, dropOf, abandonOf, saveOf, nextNameOf}
 
 -- a call: what it takes, player and keys apart
 pub data Call : Type 0 where
@@ -23,6 +23,11 @@ pub data Call : Type 0 where
   edit : ℕ → ℕ → Request → Call
   undo : Call
   redo : Call
+  -- a drag: opened on a track's key, dragged to a frame and a value, dropped or abandoned
+  openDrag : ℕ → ℕ → Call
+  drag : Float → Float → Call
+  dropDrag : Call
+  abandonDrag : Call
   -- a reading over a book, which may be damaged
   ask : List ℕ → Ask → Call
   -- saving into a buffer, as it is lent
@@ -36,6 +41,10 @@ HeldCall (tick dt fps) = T (fits binary32 dt) × T (fits binary32 fps)
 HeldCall (edit track key r) = HeldRequest r
 HeldCall undo = Unit {0}
 HeldCall redo = Unit {0}
+HeldCall (openDrag track key) = Unit {0}
+HeldCall (drag x v) = T (fits binary32 x) × T (fits binary32 v)
+HeldCall dropDrag = Unit {0}
+HeldCall abandonDrag = Unit {0}
 HeldCall (ask b q) = Unit {0}
 HeldCall (save o) = Unit {0}
 
@@ -77,5 +86,9 @@ stepP s (tick dt fps) t = afterTick s (t .keys) (tickOf s (t .player) dt fps)
 stepP s (edit track key r) t = afterChange (editOf s (t .player) (t .keys) track key r)
 stepP s undo t = afterChange (undoOf s (t .player) (t .keys))
 stepP s redo t = afterChange (redoOf s (t .player) (t .keys))
+stepP s (openDrag track key) t = afterPlay (t .keys) (openOf s (t .player) (t .keys) track key)
+stepP s (drag x v) t = afterChange (dragOf s (t .player) (t .keys) x v)
+stepP s dropDrag t = afterPlay (t .keys) (dropOf s (t .player) (t .keys))
+stepP s abandonDrag t = afterChange (abandonOf s (t .player) (t .keys))
 stepP s (ask b q) t = (t, told (tellOf s b (t .player) (t .keys) q))
 stepP s (save o) t = (t, written (saveOf s (t .player) (t .keys) o))

@@ -29,6 +29,8 @@ use Rattle.menu.specs.declared.playing.Ticked.{Ticked}
 use Rattle.menu_readings.specs.declared.single.ReadOne.{ReadOne}
 use Rattle.menu.specs.Calls.{loadedOf, playOf, poseOf, tickOf, editOf, saveOf, nextNameOf}
 use Rattle.menu_readings.specs.Readings.{readPaneOf, readMaterialOf, cascadeOf}
+use Rattle.machine.specs.Runs.{last}
+use Rattle.machine.specs.Calls.{Call, edit, undo, openDrag, drag, dropDrag, abandonDrag, stepP}
 use Rattle.machine.specs.Small.{over, below, minus, whole, name, Track, sheet, following, book, parent, child, material}
 
 -- ---- answers as numbers: a refusal first, and an f32 by its bits
@@ -60,6 +62,10 @@ ticked r = r .refusal ∷ met (r .answer) ∷ bits (r .player .frame) ∷ []
 -- what a player selects, whether it plays, whether preview is on, and its frame
 unfoldable pub seen : Player → List ℕ
 seen p = p .selection ∷ cond (p .playing) 1 0 ∷ cond (p .preview) 1 0 ∷ bits (p .frame) ∷ []
+
+-- its counts: reach, redo, accepted, undone, redone and standing; and whether a drag is open
+unfoldable pub counted : Player → List ℕ
+counted p = p .reach ∷ p .redo ∷ p .accepted ∷ p .undone ∷ p .redone ∷ p .standing ∷ cond (p .drag .«open») 1 0 ∷ []
 
 unfoldable pub played : Played → List ℕ
 played r = r .refusal ∷ seen (r .player)
@@ -208,6 +214,13 @@ saveInto s o =
     let g = saveOf s (posed s zero') (r .keys) o in
     g .refusal ∷ g .out
 
+-- an edit of key 0 is made and undone, key 0 is opened, and then these calls are made: the counts, whether a drag is open, and frames and values of the keys
+unfoldable pub dragged : List Call → List ℕ
+dragged cs =
+    let s = slopes zero' (whole 1) in
+    let t = last (stepP s) (edit 0 0 (request.Key (whole 2) (whole 9)) ∷ undo ∷ openDrag 0 0 ∷ cs) (record { player = posed s zero'; keys = loaded s }) in
+    counted (t .player) ++ map bits (t .keys .frames) ++ map bits (t .keys .values)
+
 -- a layer whose corners all have this pair, under an SRT: the pair of the top left corner
 unfoldable pub uvUnder : List Float → Float → Float → List ℕ
 uvUnder srt u v = let r = uvsOf (u ∷ v ∷ u ∷ v ∷ u ∷ v ∷ u ∷ v ∷ []) srt (replicate 24 zero') in r .refusal ∷ map bits (take 2 (r .out))
@@ -266,6 +279,10 @@ hidden = 0 ∷ 2 ∷ 0 ∷ []
 abbrev pub level : ℕ → List ℕ
 level l = 0 ∷ 4 ∷ l ∷ []
 
+-- keys at these frames with these values, after such counts
+abbrev pub keyed : List Float → List Float → List ℕ
+keyed fs vs = map bits fs ++ map bits vs
+
 -- cases that the player and the plain machine share
 unfoldable pub shared : List Pose
 shared =
@@ -295,6 +312,15 @@ shared =
     -- Document 02, 1/13: a saved sheet is laid out as one that has the edited key; a buffer of another length is declined by 14, and left.
     ∷ saveInto (slopes zero' (whole 1)) (replicate 106 0) gives (0 ∷ slopes (whole 4) (over 1 2))
     ∷ saveInto (slopes zero' (whole 1)) (replicate 105 7) gives (14 ∷ replicate 105 7)
+    -- Document 02, 2/13: while a drag is open, the key is where it is and nothing is counted. A drop is one edit, and redo is emptied; one undo gives the
+    -- key of the opening back. A drop with no accepted drag, and an abandonment, count nothing and keep redo.
+    ∷ dragged (drag (whole 4) (over 1 2) ∷ []) gives ((0 ∷ 1 ∷ 1 ∷ 1 ∷ 0 ∷ 0 ∷ 1 ∷ []) ++ keyed (whole 4 ∷ whole 8 ∷ []) (over 1 2 ∷ whole 16 ∷ []))
+    ∷ dragged (drag (whole 2) (whole 9) ∷ drag (whole 4) (over 1 2) ∷ dropDrag ∷ [])
+    gives ((1 ∷ 0 ∷ 2 ∷ 1 ∷ 0 ∷ 1 ∷ 0 ∷ []) ++ keyed (whole 4 ∷ whole 8 ∷ []) (over 1 2 ∷ whole 16 ∷ []))
+    ∷ dragged (drag (whole 2) (whole 9) ∷ drag (whole 4) (over 1 2) ∷ dropDrag ∷ undo ∷ [])
+    gives ((0 ∷ 1 ∷ 2 ∷ 2 ∷ 0 ∷ 0 ∷ 0 ∷ []) ++ keyed (zero' ∷ whole 8 ∷ []) (whole 1 ∷ whole 16 ∷ []))
+    ∷ dragged (dropDrag ∷ []) gives ((0 ∷ 1 ∷ 1 ∷ 1 ∷ 0 ∷ 0 ∷ 0 ∷ []) ++ keyed (zero' ∷ whole 8 ∷ []) (whole 1 ∷ whole 16 ∷ []))
+    ∷ dragged (drag (whole 4) (over 1 2) ∷ abandonDrag ∷ []) gives ((0 ∷ 1 ∷ 1 ∷ 1 ∷ 0 ∷ 0 ∷ 0 ∷ []) ++ keyed (zero' ∷ whole 8 ∷ []) (whole 1 ∷ whole 16 ∷ []))
     -- The remainder has the dividend's sign and is taken at the frame count or past it alone: a negative dt leaves frames below 0 as they are.
     ∷ tickOn (still 1) (viewing 0 true true (whole 2)) (below 1 2) gives (0 ∷ 1 ∷ viewOn 0 1 1 (minus 2))
     ∷ tickOn (still 0) (viewing 0 true true (whole 2)) (below 1 2) gives (0 ∷ 1 ∷ viewOn 0 1 1 (minus 2))

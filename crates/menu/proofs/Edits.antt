@@ -1,15 +1,13 @@
 -- What follows from an edit's refusal, and what `editOf` is on each side of it. Assumes nothing.
 use Prim.Native.Nat.{ℕ, _<_}
 use mathlib.Core.Path.{_≡_, sym, _∙_}
-use mathlib.Core.Bool.{true, false, not}
-use mathlib.Core.List.{List}
+use mathlib.Core.Bool.{Bool, true}
+use mathlib.Core.List.{List, _++_}
 use native.Mathlib.Omega.{arith}
 use borrow.Author.Tests.{ne-eqb}
-use lib.Dec.{eqb}
 use lib.ListN.{set}
 use lib.Ieee.{Float}
-use Rattle.laws.specs.Rows.{declines, first-held}
-use Rattle.laws.specs.Tests.{and-1}
+use Rattle.laws.specs.Rows.{Row, declines, first-held, stops, goes}
 use Rattle.sheet.specs.Sizes.{targetCount}
 use Rattle.sheet.specs.Checked.{Checked}
 use Rattle.curve.specs.declared.Key.{Key}
@@ -18,43 +16,42 @@ use Rattle.player.specs.declared.Player.{Player}
 use Rattle.edit.specs.declared.request.Request.{Request}
 use Rattle.edit.specs.declared.spot.Spot.{Spot}
 use Rattle.edit.specs.Keys.{keys, keyAt, putKey}
-use Rattle.edit.specs.Edit.{none, hasKey, spotOf, editedAt, edited, requestRows, keyIn}
+use Rattle.edit.specs.Edit.{hasKey, spotOf, editedAt, edited, requestRows, trackRows}
 use Rattle.edit.specs.Put.{has-key, spot-inside}
-use Rattle.edit.specs.Accepted.{accepted-key}
+use Rattle.edit.specs.Accepted.{tracked-key, accepted-key}
 use Rattle.edit.specs.Spot.{InsideAll}
 use Rattle.player.specs.Counts.{CanEdit}
 use Rattle.player.specs.Edited.{editedPlayer}
 use Rattle.menu_checks.specs.Rows.{stateRows}
 use Rattle.menu.specs.Rows.{editTable}
 use Rattle.menu.specs.Calls.{gave, entryFor, editOf}
-use Rattle.menu_checks.specs.Checks.{state-ready}
+use Rattle.menu_checks.specs.Checks.{StateReady, state-ready}
 
--- a track's key that the animation has, the sheet has
-pub in-has : (s : List ℕ) (a track key : ℕ) → keyIn s a track key ≡ true → hasKey s track key ≡ true
-unfolding keyIn
-in-has s a track key e = and-1 (hasKey s track key) _ e
-
--- what an edit that is not declined has
+-- what a call has that changes a key and is not declined
 pub record Allowed (s : List ℕ) (p : Player) (fs vs ss : List Float) (track key : ℕ) : Type 0 where
   pub sheet : Checked s
   pub on : track < targetCount s
   pub inside : InsideAll fs vs ss (spotOf s track key)
   pub counts : CanEdit p
 
+-- a key that the sheet has, where the rows that calls share hold
+pub on-key : {s : List ℕ} {p : Player} {fs vs ss : List Float} → StateReady s p (keys fs vs ss) → (track key : ℕ) → hasKey s track key ≡ true → Allowed s p fs vs ss track key
+on-key {s} {fs = fs} {vs} {ss} w track key h =
+    let k = has-key s track key h in
+    let c = w .player .counts in
+    record {
+      sheet = w .sheet;
+      on = k .0;
+      inside = spot-inside (w .sheet) (keys fs vs ss) (w .rules) track key (k .0) (k .1);
+      counts = record { reach = omega (arith, c .room); accepted = c .accepts; standing = c .stands };
+    }
+
 module _ (s : List ℕ) (p : Player) (fs vs ss : List Float) (track key : ℕ) (r : Request) (n : ℕ) (e : n ≡ declines (editTable s p (keys fs vs ss) track key r)) where
   pub allowed : n ≡ 0 → Allowed s p fs vs ss track key
   unfolding editTable
   allowed z =
-      let w = state-ready s p fs vs ss _ e z in
-      let h = accepted-key s (p .selection) (keys fs vs ss) track key r (first-held (stateRows s p (keys fs vs ss)) _ tt (sym e ∙ z) .1) .0 in
-      let k = has-key s track key h in
-      let c = w .player .counts in
-      record {
-        sheet = w .sheet;
-        on = k .0;
-        inside = spot-inside (w .sheet) (keys fs vs ss) (w .rules) track key (k .0) (k .1);
-        counts = record { reach = omega arith; accepted = c .accepts; standing = c .stands };
-      }
+      let h = accepted-key s (p .selection) (p .drag .«open») track key (keys fs vs ss) r (first-held (stateRows s p (keys fs vs ss)) _ tt (sym e ∙ z) .1) .0 in
+      on-key (state-ready s p fs vs ss _ e z) track key h
 
   pub refused-is : (n ≡ 0 → ⊥) → gave (record { refusal = n; player = p }) (keys fs vs ss) ≡ editOf s p (keys fs vs ss) track key r
   unfolding editOf
@@ -67,14 +64,19 @@ module _ (s : List ℕ) (p : Player) (fs vs ss : List Float) (track key : ℕ) (
   unfolding editOf entryFor edited keyAt putKey spotOf
   made-is x b a q fs′ vs′ ss′ z l h k m f v t = rw (← e, z, m, f, v, t, k, h, l)
 
--- a selection is none, or is not
-pub is-none : {a : ℕ} → a ≡ none → not (eqb a none) ≡ false
-is-none e = rw e
-
-pub not-none : {a : ℕ} → (a ≡ none → ⊥) → not (eqb a none) ≡ true
-not-none {a} d = rw (ne-eqb a none d)
-
 -- the request's rows, at the spot that a call gave
 pub request-at : (s : List ℕ) (fs : List Float) (track key : ℕ) (r : Request) {n : ℕ} {x : Spot} → x ≡ spotOf s track key → n ≡ declines (requestRows fs x r)
     → n ≡ declines (requestRows fs (spotOf s track key) r)
 request-at s fs track key r e h = rw (← e) h
+
+-- rows 6, 15 and 7 behind the rows that calls share, and the request's behind them
+module _ (s : List ℕ) (selection : ℕ) (dragging : Bool) (track key : ℕ) (more : List Row) {n : ℕ} (e : n ≡ declines (trackRows s selection dragging track key)) where
+  pub track-stops : (n ≡ 0 → ⊥) → n ≡ declines (trackRows s selection dragging track key ++ more)
+  track-stops d = stops (trackRows s selection dragging track key) more e d
+
+  pub track-goes : {m : ℕ} → n ≡ 0 → m ≡ declines more → m ≡ declines (trackRows s selection dragging track key ++ more)
+  unfolding trackRows
+  track-goes z h = goes (trackRows s selection dragging track key) more tt e z h
+
+pub track-key : (s : List ℕ) (selection : ℕ) (dragging : Bool) (track key : ℕ) {n : ℕ} → n ≡ declines (trackRows s selection dragging track key) → n ≡ 0 → hasKey s track key ≡ true
+track-key s selection dragging track key e z = tracked-key s selection dragging track key (sym e ∙ z)

@@ -3,4 +3,5 @@ pub mod Results
 pub mod Loads
 pub mod Edits
 pub mod Undoes
+pub mod Drags
 pub mod Saves

@@ -1,5 +1,5 @@
 -- What follows from the refusal of an undo or a redo, and what `takeOf` is on each side of it. Assumes nothing.
-use Prim.Native.Nat.{ℕ, _<_}
+use Prim.Native.Nat.{ℕ}
 use mathlib.Core.Path.{_≡_, sym, _∙_}
 use mathlib.Core.Bool.{Bool, true, false, not}
 use mathlib.Core.List.{List}
@@ -10,18 +10,13 @@ use lib.ListN.{set}
 use lib.Ieee.{Float}
 use Rattle.laws.specs.Rows.{declines, held, first-held}
 use Rattle.laws.specs.Tests.{is-zero, is-not-zero}
-use Rattle.sheet.specs.Sizes.{targetCount}
-use Rattle.sheet.specs.Checked.{Checked}
 use Rattle.edit.specs.declared.spot.Spot.{Spot}
 use Rattle.edit.specs.Keys.{Keys, keys, putKey}
 use Rattle.edit.specs.Edit.{spotOf}
-use Rattle.edit.specs.Spot.{InsideAll}
-use Rattle.edit.specs.Put.{has-key, spot-inside}
 use Rattle.player.specs.declared.Player.{Player}
 use Rattle.player.specs.declared.journal.Entry.{Entry}
 use Rattle.player.specs.declared.undo.Way.{Way}
 use Rattle.player.specs.declared.undo.Way.the-variants.{Undo, Redo}
-use Rattle.player.specs.Player.{entryOk}
 use Rattle.player.specs.Counts.{CanTake}
 use Rattle.player.specs.Undo.{entries, entryOf, takeFits, takeRows, takenKeys, takenPlayer}
 use Rattle.player.specs.Sound.{Sound}
@@ -30,17 +25,7 @@ use Rattle.menu_checks.specs.Rows.{stateRows}
 use Rattle.menu_checks.specs.Checks.{StateReady, state-ready}
 use Rattle.menu.specs.Rows.{takeTable}
 use Rattle.menu.specs.Calls.{gave, takeOf}
-
--- what a call that takes an entry back or makes it again has
-pub record Taken (s : List ℕ) (fs vs ss : List Float) (e : Entry) : Type 0 where
-  pub sheet : Checked s
-  pub on : e .track < targetCount s
-  pub inside : InsideAll fs vs ss (spotOf s (e .track) (e .key))
-
-pub taken : {s : List ℕ} {p : Player} {fs vs ss : List Float} → StateReady s p (keys fs vs ss) → (e : Entry) → entryOk s e ≡ true → Taken s fs vs ss e
-taken {fs = fs} {vs} {ss} w e h =
-    let k = has-key _ (e .track) (e .key) h in
-    record { sheet = w .sheet; on = k .0; inside = spot-inside (w .sheet) (keys fs vs ss) (w .rules) (e .track) (e .key) (k .0) (k .1) }
+use Rattle.menu.proofs.Edits.{Allowed, on-key}
 
 -- the counts allow it
 pub can-take : {s : List ℕ} {p : Player} → Sound s p → (way : Way) → (entries way p ≡ 0 → ⊥) → CanTake way p
@@ -64,13 +49,13 @@ module _ (s : List ℕ) (p : Player) (way : Way) (fs vs ss : List Float) (n : �
   unfolding takeTable takeRows
   some z =
       let own = held (takeRows way s p (keys fs vs ss)) tt (first-held (stateRows s p (keys fs vs ss)) _ tt (sym e ∙ z) .1) in
-      eqb-false (entries way p) 0 (not-true (eqb (entries way p) 0) (own .1 .0))
+      eqb-false (entries way p) 0 (not-true (eqb (entries way p) 0) (own .1 .1 .0))
 
   pub take-can : n ≡ 0 → CanTake way p
   take-can z = can-take (ready z .player) way (some z)
 
-  pub take-taken : n ≡ 0 → Taken s fs vs ss (entryOf way p)
-  take-taken z = taken (ready z) (entryOf way p) (entry-used (ready z .player) way (some z))
+  pub take-allowed : n ≡ 0 → Allowed s p fs vs ss (entryOf way p .track) (entryOf way p .key)
+  take-allowed z = on-key (ready z) (entryOf way p .track) (entryOf way p .key) (entry-used (ready z .player) way (some z))
 
   pub take-made : (y : Entry) (t : Spot) (r : Player) (fs′ vs′ ss′ : List Float) → n ≡ 0 → y ≡ entryOf way p → t ≡ spotOf s (y .track) (y .key) → r ≡ takenPlayer way p
       → fs′ ≡ set fs (t .at) (y .after .frame) → vs′ ≡ set vs (t .at) (y .after .value) → ss′ ≡ set ss (t .at) (y .after .slope)
@@ -86,9 +71,9 @@ pub some-left : {n m : ℕ} → n ≡ m → (n ≡ 0 → ⊥) → not (eqb m 0) 
 some-left {n} {m} e d = is-not-zero m (λ z. d (e ∙ z))
 
 -- and whether it may be taken, likewise
-module _ (s : List ℕ) (p : Player) (ks : Keys) (way : Way) (n : ℕ) (e : Entry) {b : Bool} (r : b ≡ takeFits s ks n e) (q : n ≡ entries way p) (h : e ≡ entryOf way p) where
-  pub fits-not : not b ≡ true → takeFits s ks (entries way p) (entryOf way p) ≡ false
+module _ (s : List ℕ) (p : Player) (ks : Keys) (way : Way) (n : ℕ) (e : Entry) {b : Bool} (r : b ≡ takeFits s ks (p .drag .«open») n e) (q : n ≡ entries way p) (h : e ≡ entryOf way p) where
+  pub fits-not : not b ≡ true → takeFits s ks (p .drag .«open») (entries way p) (entryOf way p) ≡ false
   fits-not t = rw (← q, ← h, ← r) (not-true b t)
 
-  pub fits-yes : not b ≡ false → takeFits s ks (entries way p) (entryOf way p) ≡ true
+  pub fits-yes : not b ≡ false → takeFits s ks (p .drag .«open») (entries way p) (entryOf way p) ≡ true
   fits-yes t = rw (← q, ← h, ← r) (not-false b t)

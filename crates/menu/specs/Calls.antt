@@ -1,4 +1,4 @@
--- What each call gives (document 01, "Playing and editing" and "What a call declines"; document 02, 1/13): the number of the first row of its list that doesn't hold
+-- What each call gives (document 01, "Playing and editing" and "What a call declines"; document 02, 1/13 and 2/13): the number of the first row of its list that doesn't hold
 -- (specs/Rows), and its step where each does. Definitions only.
 use Prim.Native.Nat.{ℕ}
 use mathlib.Core.Bool.{cond}
@@ -15,17 +15,20 @@ use Rattle.keys.specs.Load.{loadOf}
 use Rattle.saved.specs.Saved.{savedOf}
 use Rattle.edit.specs.Keys.{Keys, keys, keyAt, putKey}
 use Rattle.player.specs.Player.{freshPlayer}
-use Rattle.player.specs.Parts.{viewOf, withView}
+use Rattle.player.specs.Parts.{viewOf, withView, withDrag}
 use Rattle.player.specs.View.{playView, poseView, tickView, tickAnswer}
 use Rattle.edit.specs.declared.request.Request.{Request}
+use Rattle.edit.specs.declared.request.Request.the-variants as request
 use Rattle.edit.specs.Edit.{place, edited}
 use Rattle.player.specs.declared.undo.Way.{Way}
 use Rattle.player.specs.declared.undo.Way.the-variants.{Undo, Redo}
 use Rattle.player.specs.Undo.{entryOf, takenKeys, takenPlayer}
 use Rattle.player.specs.Edited.{editedPlayer}
+use Rattle.player.specs.Drag.{noDrag, openedOn, movedOn, putBack}
+use Rattle.player.specs.Dragged.{droppedPlayer}
 use Rattle.menu.specs.declared.playing.Played.{Played}
 use Rattle.menu.specs.declared.playing.Ticked.{Ticked}
-use Rattle.menu.specs.Rows.{playTable, poseTable, tickTable, editTable, takeTable, saveTable, nextNameTable}
+use Rattle.menu.specs.Rows.{playTable, poseTable, tickTable, editTable, takeTable, openTable, dragTable, closeTable, saveTable, nextNameTable}
 
 unfoldable pub playOf : List ℕ → Player → ℕ → Played
 playOf s p a =
@@ -88,6 +91,33 @@ undoOf s p ks = takeOf Undo s p ks
 
 abbrev pub redoOf : List ℕ → Player → Keys → Changed
 redoOf s p ks = takeOf Redo s p ks
+
+-- The place of the key that is dragged.
+abbrev pub heldAt : List ℕ → Player → ℕ
+heldAt s p = place s (p .drag .track) (p .drag .key)
+
+-- Opening a drag: the key is remembered as it is.
+unfoldable pub openOf : List ℕ → Player → Keys → ℕ → ℕ → Played
+openOf s p ks track key =
+    let n = declines (openTable s p ks track key) in
+    record { refusal = n; player = cond (eqb n 0) (withDrag p (openedOn track key (keyAt ks (place s track key)))) p }
+
+-- A drag: a key edit of that key, which the journal doesn't take.
+unfoldable pub dragOf : List ℕ → Player → Keys → Float → Float → Changed
+dragOf s p ks x v =
+    changed (declines (dragTable s p ks x v)) p ks
+    (withDrag p (movedOn (p .drag)))
+    (putKey ks (heldAt s p) (edited s ks (p .drag .track) (p .drag .key) (request.Key x v)))
+
+-- A drop: the key stays where it is, as one edit if a drag was accepted.
+unfoldable pub dropOf : List ℕ → Player → Keys → Played
+dropOf s p ks =
+    let n = declines (closeTable s p ks) in
+    record { refusal = n; player = cond (eqb n 0) (droppedPlayer p (keyAt ks (heldAt s p))) p }
+
+-- An abandonment: the key is put back, and nothing is counted.
+unfoldable pub abandonOf : List ℕ → Player → Keys → Changed
+abandonOf s p ks = changed (declines (closeTable s p ks)) p ks (withDrag p noDrag) (putBack s ks (p .drag))
 
 -- what a call gives that writes into an output of bytes, and leaves in it
 pub record Written : Type 0 where

@@ -1,14 +1,11 @@
 // The edits of one key.
 use crate::playing::Played;
-use edit::NONE;
 use edit::put::put_key;
 use edit::request::Request;
 use edit::request::request_refusal;
-use edit::spot::key_in;
+use edit::request::track_refusal;
 use edit::spot::spot_of;
 use laws::refusal::ACCEPTED;
-use laws::refusal::NO_ANIMATION;
-use laws::refusal::NO_SUCH_ROW;
 use menu_checks::check_state;
 use player::Player;
 use player::journal::Entry;
@@ -34,11 +31,9 @@ fn edit_refusal(
     if n != ACCEPTED {
         return n;
     }
-    if p.selection == NONE {
-        return NO_ANIMATION;
-    }
-    if !key_in(s, p.selection, track, key) {
-        return NO_SUCH_ROW;
+    let m = track_refusal(s, p.selection, p.drag.open, track, key);
+    if m != ACCEPTED {
+        return m;
     }
     let spot = spot_of(s, track as usize, key);
     request_refusal(frames, spot, r)
@@ -81,7 +76,7 @@ fn edit(
     }
 }
 
-// Moves a key of the active animation to a frame and a value. Refusals 1, 3 to 9.
+// Moves a key of the active animation to a frame and a value. Refusals 1, 3 to 6, 15, 7 to 9.
 pub fn key_edit(
     p: Player,
     s: &[u8],
@@ -107,7 +102,7 @@ pub fn key_edit(
     )
 }
 
-// Gives a Hermite key of the active animation a slope. Refusals 1, 3 to 8, 10.
+// Gives a Hermite key of the active animation a slope. Refusals 1, 3 to 6, 15, 7, 8, 10.
 pub fn slope_edit(
     p: Player,
     s: &[u8],

@@ -1,11 +1,16 @@
-// Loading, playing, editing and saving: each call looks at its rows of the table in their order, then makes its step. No function here asks anything of its
+// Loading, playing, editing, dragging and saving: each call looks at its rows of the table in their order, then makes its step. No function here asks anything of its
 // caller.
+mod dragging;
 mod editing;
 mod loading;
 mod playing;
 mod saving;
 mod undoing;
 
+pub use dragging::abandon_drag;
+pub use dragging::drag;
+pub use dragging::drop_drag;
+pub use dragging::open_drag;
 pub use editing::key_edit;
 pub use editing::slope_edit;
 pub use loading::load;

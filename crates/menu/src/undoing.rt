@@ -4,6 +4,7 @@ use edit::put::put_key;
 use edit::spot::spot_of;
 use laws::refusal::ACCEPTED;
 use laws::refusal::BROKEN_STATE;
+use laws::refusal::DRAG_STATE;
 use laws::refusal::NOTHING_TO_TAKE;
 use menu_checks::check_state;
 use player::Player;
@@ -24,8 +25,12 @@ fn take_refusal(p: Player, way: Way, s: &[u8], frames: &[f32], values: &[f32], s
         return n;
     }
     let left = entries(way, p.reach, p.redo);
-    if !take_fits(s, frames, values, slopes, left, p.entry(way)) {
+    let dragging = p.drag.open;
+    if !take_fits(s, frames, values, slopes, dragging, left, p.entry(way)) {
         return BROKEN_STATE;
+    }
+    if dragging {
+        return DRAG_STATE;
     }
     if left == 0 {
         return NOTHING_TO_TAKE;
@@ -60,7 +65,7 @@ fn take(
     }
 }
 
-// Takes the last standing edit back. Refusals 1, 3 to 5, 11.
+// Takes the last standing edit back. Refusals 1, 3 to 5, 15, 11.
 pub fn undo(
     p: Player,
     s: &[u8],
@@ -73,7 +78,7 @@ pub fn undo(
     take(p, Way::Undo, s, frames, values, slopes)
 }
 
-// Makes the edit that was undone last again. Refusals 1, 3 to 5, 11.
+// Makes the edit that was undone last again. Refusals 1, 3 to 5, 15, 11.
 pub fn redo(
     p: Player,
     s: &[u8],

@@ -7,7 +7,7 @@ use borrow.Author.Tests.{eqb-true, ne-eqb}
 use lib.Dec.{eqb}
 use lib.ListN.{length}
 use lib.Ieee.{Float}
-use Rattle.laws.specs.Rows.{Row, declines, first-held, hold-at, row-in, stops, goes, row-laws}
+use Rattle.laws.specs.Rows.{Row, declines, held, first-held, hold-at, row-in, stops, goes, row-laws}
 use Rattle.laws.specs.Tests.{both}
 use Rattle.sheet.specs.Sizes.{keyCount}
 use Rattle.sheet.specs.Checked.{Checked, checked}
@@ -15,12 +15,15 @@ use Rattle.keys.specs.Load.{arraysOk, lengthsOk}
 use Rattle.reading.specs.Ready.{Ready, ready}
 use Rattle.player.specs.declared.Player.{Player}
 use Rattle.edit.specs.Keys.{Keys, keys, keysOkOf}
+use Rattle.player.specs.Player.{playerOk}
 use Rattle.player.specs.Sound.{Sound, sound, selected-below}
 use Rattle.player.specs.declared.journal.Entry.{Entry}
 use Rattle.player.specs.declared.undo.Way.{Way}
 use Rattle.player.specs.Undo.{entries, entryOf}
 use Rattle.player.specs.Takes.{Takeable, entry-used}
 use Rattle.player.specs.Ticked.{Selected}
+use Rattle.player.specs.Drag.{dragFits}
+use Rattle.player.specs.Dragged.{Draggable}
 use Rattle.menu_checks.specs.Rows.{brokenRows, playerRows, keysRows, stateRows, bookRows, readingRows}
 
 -- ---- calls that take sheet and player
@@ -44,12 +47,15 @@ pub record StateReady (s : List ℕ) (p : Player) (ks : Keys) : Type 0 where
   pub slopes : length (ks .slopes) ≡ keyCount s
   pub rules : keysOkOf s ks ≡ true
   pub player : Sound s p
+  pub drag : dragFits s ks (p .drag) ≡ true
 
 pub state-ready : (s : List ℕ) (p : Player) (fs vs ss : List Float) (more : List Row) {n : ℕ} → n ≡ declines (stateRows s p (keys fs vs ss) ++ more) → n ≡ 0
     → StateReady s p (keys fs vs ss)
 unfolding arraysOk lengthsOk
 state-ready s p fs vs ss more e z =
-    let k = first-held (keysRows s (keys fs vs ss)) (brokenRows s p ++ more) tt (sym e ∙ z) in
+    let k = first-held (keysRows s (keys fs vs ss)) (brokenRows s p (keys fs vs ss) ++ more) tt (sym e ∙ z) in
+    let broken = brokenRows s p (keys fs vs ss) in
+    let own = first-held broken more tt (k .1) .0 in
     let long : lengthsOk s fs vs ss ≡ true = hold-at 3 (keysRows s (keys fs vs ss)) (search row-in) (k .0) in
     let b = both _ (eqb (length ss) (keyCount s)) long in
     let a = both (eqb (length fs) (keyCount s)) (eqb (length vs) (keyCount s)) (b .0) in
@@ -59,8 +65,13 @@ state-ready s p fs vs ss more e z =
       values = eqb-true _ _ (a .1);
       slopes = eqb-true _ _ (b .1);
       rules = hold-at 4 (keysRows s (keys fs vs ss)) (search row-in) (k .0);
-      player = sound s p (hold-at 5 (brokenRows s p) (search row-in) (first-held (brokenRows s p) more tt (k .1) .0));
+      player = sound s p (hold-at 5 broken (search row-in) own);
+      drag = hold-at 5 broken (search row-in) own;
     }
+
+-- as a drag's calls ask it
+pub draggable : {s : List ℕ} {p : Player} {ks : Keys} → StateReady s p ks → Draggable s ks (p .drag)
+draggable w = record { sheet = w .sheet; rules = w .rules; row = w .player .drag }
 
 -- as an undo and a redo ask it, of the entry that the player takes
 pub takeable : {s : List ℕ} {p : Player} {ks : Keys} {n : ℕ} {e : Entry} (way : Way) → StateReady s p ks → n ≡ entries way p → e ≡ entryOf way p → Takeable s ks n e
@@ -74,12 +85,33 @@ pub record ReadingReady (s b : List ℕ) (p : Player) (ks : Keys) : Type 0 where
 pub reading-ready : (s b : List ℕ) (p : Player) (fs vs ss : List Float) (more : List Row) {n : ℕ} → n ≡ declines (readingRows s b p (keys fs vs ss) ++ more) → n ≡ 0
     → ReadingReady s b p (keys fs vs ss)
 reading-ready s b p fs vs ss more e z =
-    let k = first-held (bookRows s b (keys fs vs ss)) (brokenRows s p ++ more) tt (sym e ∙ z) in
+    let k = first-held (bookRows s b (keys fs vs ss)) (brokenRows s p (keys fs vs ss) ++ more) tt (sym e ∙ z) in
     let rs = bookRows s b (keys fs vs ss) in
     record {
       ready = ready s b fs vs ss (hold-at 1 rs (search row-in) (k .0)) (hold-at 2 rs (search row-in) (k .0)) (hold-at 4 rs (search row-in) (k .0));
-      player = sound s p (hold-at 5 (brokenRows s p) (search row-in) (first-held (brokenRows s p) more tt (k .1) .0));
+      player = sound s p (hold-at 5 (brokenRows s p (keys fs vs ss)) (search row-in) (first-held (brokenRows s p (keys fs vs ss)) more tt (k .1) .0));
     }
+
+-- ---- sheet and keys alone, behind which row 5 is looked at
+pub record KeysReady (s : List ℕ) (ks : Keys) : Type 0 where
+  pub sheet : Checked s
+  pub rules : keysOkOf s ks ≡ true
+
+pub keys-ready : (s : List ℕ) (fs vs ss : List Float) {n : ℕ} → n ≡ declines (keysRows s (keys fs vs ss)) → n ≡ 0 → KeysReady s (keys fs vs ss)
+keys-ready s fs vs ss e z =
+    let rs = keysRows s (keys fs vs ss) in
+    let h = held rs tt (sym e ∙ z) in
+    record { sheet = checked s (hold-at 1 rs (search row-in) h); rules = hold-at 4 rs (search row-in) h }
+
+pub book-ready : (s b : List ℕ) (fs vs ss : List Float) {n : ℕ} → n ≡ declines (bookRows s b (keys fs vs ss)) → n ≡ 0 → KeysReady s (keys fs vs ss)
+book-ready s b fs vs ss e z =
+    let rs = bookRows s b (keys fs vs ss) in
+    let h = held rs tt (sym e ∙ z) in
+    record { sheet = checked s (hold-at 1 rs (search row-in) h); rules = hold-at 4 rs (search row-in) h }
+
+-- with a player whose state is not broken, they are what a drag's question asks
+pub held-open : {s : List ℕ} {ks : Keys} (p : Player) → KeysReady s ks → playerOk s p ≡ true → Draggable s ks (p .drag)
+held-open {s} p w e = record { sheet = w .sheet; rules = w .rules; row = sound s p e .drag }
 
 -- ---- a call's own rows behind those that it shares: its list stops with them, or goes on. `stops` and `goes` for each list that calls share, since
 -- `search` finds where a named list ends in one that has computed, and not where any list does.

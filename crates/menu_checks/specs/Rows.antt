@@ -1,4 +1,4 @@
--- The rows of document 01's table "What a call declines" that look at what calls take, whatever they do. A call's own rows follow them. Definitions only.
+-- The rows of document 01's table "What a call declines" (with document 02's, 2/13) that look at what calls take, whatever they do. A call's own rows follow them. Definitions only.
 use Prim.Native.Nat.{ℕ}
 use mathlib.Core.List.{List, [], _∷_, _++_}
 use Rattle.laws.specs.Rows.{Row, row}
@@ -8,29 +8,30 @@ use Rattle.keys.specs.Load.{lentRows}
 use Rattle.edit.specs.Keys.{Keys}
 use Rattle.player.specs.declared.Player.{Player}
 use Rattle.player.specs.Player.{playerOk}
+use Rattle.player.specs.Drag.{dragFits}
 
 -- keys: rows 3 and 4
 abbrev pub arrayRows : List ℕ → Keys → List Row
 arrayRows s ks = lentRows s (ks .frames) (ks .values) (ks .slopes)
 
--- a player: row 5
-abbrev pub brokenRows : List ℕ → Player → List Row
-brokenRows s p = row 5 (playerOk s p) ∷ []
-
--- sheet and player
+-- sheet and player: row 5 as far as it looks at the player alone
 abbrev pub playerRows : List ℕ → Player → List Row
-playerRows s p = row 1 (sheetOk s) ∷ brokenRows s p
+playerRows s p = row 1 (sheetOk s) ∷ row 5 (playerOk s p) ∷ []
+
+-- a player, where keys are taken: row 5 also asks whether an open drag's starting key can be put back
+abbrev pub brokenRows : List ℕ → Player → Keys → List Row
+brokenRows s p ks = row 5 (playerOk s p) ∷ row 5 (dragFits s ks (p .drag)) ∷ []
 
 -- sheet and keys; with a player as well
 abbrev pub keysRows : List ℕ → Keys → List Row
 keysRows s ks = row 1 (sheetOk s) ∷ arrayRows s ks
 
 abbrev pub stateRows : List ℕ → Player → Keys → List Row
-stateRows s p ks = keysRows s ks ++ brokenRows s p
+stateRows s p ks = keysRows s ks ++ brokenRows s p ks
 
 -- sheet, book and keys; with a player as well
 abbrev pub bookRows : List ℕ → List ℕ → Keys → List Row
 bookRows s b ks = row 1 (sheetOk s) ∷ row 2 (bookOk b) ∷ arrayRows s ks
 
 abbrev pub readingRows : List ℕ → List ℕ → Player → Keys → List Row
-readingRows s b p ks = bookRows s b ks ++ brokenRows s p
+readingRows s b p ks = bookRows s b ks ++ brokenRows s p ks

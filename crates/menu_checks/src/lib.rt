@@ -32,7 +32,7 @@ pub fn check_keys(s: &[u8], frames: &[f32], values: &[f32], slopes: &[f32]) -> u
     keys::lent_refusal(s, frames, values, slopes)
 }
 
-// Those, and row 5.
+// Rows 1, 3, 4 and 5.
 pub fn check_state(p: Player, s: &[u8], frames: &[f32], values: &[f32], slopes: &[f32]) -> u8
     ensures { λ r. ⌜ r ≡ declines (stateRows (now (s .entry)) p (lent (frames .entry) (values .entry) (slopes .entry))) ⌝ }
 {
@@ -40,7 +40,11 @@ pub fn check_state(p: Player, s: &[u8], frames: &[f32], values: &[f32], slopes: 
     if n != ACCEPTED {
         return n;
     }
+    let d = p.drag;
     if !p.ok(s) {
+        return BROKEN_STATE;
+    }
+    if !d.fits(s, frames, values, slopes) {
         return BROKEN_STATE;
     }
     ACCEPTED
@@ -59,7 +63,7 @@ pub fn check_book(s: &[u8], b: &[u8], frames: &[f32], values: &[f32], slopes: &[
     keys::lent_refusal(s, frames, values, slopes)
 }
 
-// Those, and row 5.
+// Rows 1 to 5.
 pub fn check_reading(
     p: Player,
     s: &[u8],
@@ -74,7 +78,11 @@ pub fn check_reading(
     if n != ACCEPTED {
         return n;
     }
+    let d = p.drag;
     if !p.ok(s) {
+        return BROKEN_STATE;
+    }
+    if !d.fits(s, frames, values, slopes) {
         return BROKEN_STATE;
     }
     ACCEPTED

@@ -1,11 +1,12 @@
 -- `playerOk` by the ways of `Player::ok`. Assumes nothing.
-use mathlib.Core.Path.{_≡_, refl, sym, _∙_}
-use mathlib.Core.Bool.{Bool, true, false, _&&_, and-false}
+use mathlib.Core.Path.{_≡_, _∙_}
+use mathlib.Core.Bool.{Bool, true, false, and-true, and-false}
 use mathlib.Core.List.{List}
 use Prim.Native.Nat.{ℕ, _+_, _-_}
 use Rattle.laws.specs.Below.{allBelow}
 use Rattle.float.specs.Numbers.{finite}
 use Rattle.player.specs.declared.Player.{Player}
+use Rattle.player.specs.Drag.{dragOk}
 use Rattle.player.specs.Player.{selectionOk, usedOk, countsOk, playerOk}
 
 module _ (s : List ℕ) (p : Player) where
@@ -21,7 +22,16 @@ module _ (s : List ℕ) (p : Player) where
   unfolding playerOk
   counts-no e = simp (e, and-false)
 
-  pub rows-left : {r : Bool} → selectionOk s (p .selection) ≡ true → finite (p .frame) ≡ true → countsOk (p .reach) (p .redo) (p .accepted) (p .undone) (p .redone) (p .standing) ≡ true
-      → r ≡ allBelow (p .reach + p .redo) (usedOk s (p .journal) (p .standing - p .reach)) → r ≡ playerOk s p
+  pub drag-no : dragOk s (p .drag) ≡ false → false ≡ playerOk s p
   unfolding playerOk
-  rows-left a b d e = e ∙ rw (a, b, d)
+  drag-no e = simp (e, and-false)
+
+  pub rows-left : {r : Bool} → selectionOk s (p .selection) ≡ true → finite (p .frame) ≡ true → countsOk (p .reach) (p .redo) (p .accepted) (p .undone) (p .redone) (p .standing) ≡ true
+      → dragOk s (p .drag) ≡ true → r ≡ allBelow (p .reach + p .redo) (usedOk s (p .journal) (p .standing - p .reach)) → r ≡ playerOk s p
+  unfolding playerOk
+  rows-left a b c d e = e ∙ simp (a, b, c, d, and-true)
+
+-- no row is used
+pub none-used : (n : ℕ) (f : ℕ → Bool) → n ≡ 0 → true ≡ allBelow n f
+unfolding allBelow
+none-used n f z = rw z

@@ -1,11 +1,12 @@
--- The player by its two parts (document 01, "Playing and editing"): the view, which play, pose and tick move, and the edits, which an accepted
--- edit, an undo and a redo move. `playerOf` is the one place that lists the player's fields. Definitions only.
+-- The player by its three parts (document 01, "Playing and editing"; document 02, 2/13): the view, which play, pose and tick move; the edits, which an
+-- accepted edit, an undo, a redo and a drop move; and the drag. `playerOf` is the one place that lists the player's fields. Definitions only.
 use Prim.Native.Nat.{ℕ}
 use mathlib.Core.Bool.{Bool, false}
 use lib.Ieee.{Float}
 use Rattle.float.specs.Numbers.{zero'}
 use Rattle.edit.specs.Edit.{none}
 use Rattle.player.specs.declared.Player.{Player}
+use Rattle.player.specs.declared.drag.Drag.{Drag}
 use Rattle.player.specs.declared.journal.Journal.{Journal}
 
 pub record View : Type 0 where
@@ -39,8 +40,8 @@ editsOf p =
       journal = p .journal;
     }
 
-abbrev pub playerOf : View → Edits → Player
-playerOf v e =
+abbrev pub playerOf : View → Edits → Drag → Player
+playerOf v e d =
     record {
       selection = v .selection;
       playing = v .playing;
@@ -53,14 +54,18 @@ playerOf v e =
       redone = e .redone;
       standing = e .standing;
       journal = e .journal;
+      drag = d;
     }
 
--- the player with another view, and with other edits
+-- the player with another view, with other edits, and with another drag
 abbrev pub withView : Player → View → Player
-withView p v = playerOf v (editsOf p)
+withView p v = playerOf v (editsOf p) (p .drag)
 
 abbrev pub withEdits : Player → Edits → Player
-withEdits p e = playerOf (viewOf p) e
+withEdits p e = playerOf (viewOf p) e (p .drag)
+
+abbrev pub withDrag : Player → Drag → Player
+withDrag p d = playerOf (viewOf p) (editsOf p) d
 
 -- nothing is selected
 abbrev pub noView : View

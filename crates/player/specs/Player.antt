@@ -1,4 +1,4 @@
--- The player's state (document 01, "Playing and editing"), and when it is broken (row 5 of the table). Assumes nothing.
+-- The player's state (document 01, "Playing and editing"; document 02, 2/13), and when it is broken (row 5 of the table). Assumes nothing.
 use Prim.Native.Nat.{ℕ, _+_, _-_, _^_}
 use mathlib.Core.Bool.{Bool, _&&_, _||_}
 use mathlib.Core.List.{List}
@@ -12,14 +12,15 @@ use Rattle.player.specs.declared.journal.Entry.{Entry}
 use Rattle.player.specs.declared.journal.Journal.{Journal}
 use Rattle.player.specs.Journal.{rows, emptyJournal, rowOf}
 use Rattle.player.specs.Parts.{playerOf, noView}
+use Rattle.player.specs.Drag.{noDrag, dragOk}
 
 -- how high a count goes
 abbrev pub most : ℕ
 most = 2 ^ 40
 
--- A fresh player has nothing selected, frame +0, not playing, preview off, all counts 0.
+-- A fresh player has nothing selected, frame +0, not playing, preview off, all counts 0, and no drag open.
 unfoldable pub freshPlayer : Player
-freshPlayer = playerOf noView (record { reach = 0; redo = 0; accepted = 0; undone = 0; redone = 0; standing = 0; journal = emptyJournal })
+freshPlayer = playerOf noView (record { reach = 0; redo = 0; accepted = 0; undone = 0; redone = 0; standing = 0; journal = emptyJournal }) noDrag
 
 -- a selection: nothing, or one of the animations
 unfoldable pub selectionOk : List ℕ → ℕ → Bool
@@ -51,3 +52,4 @@ playerOk s p =
     && finite (p .frame)
     && countsOk (p .reach) (p .redo) (p .accepted) (p .undone) (p .redone) (p .standing)
     && allBelow (p .reach + p .redo) (usedOk s (p .journal) (p .standing - p .reach))
+    && dragOk s (p .drag)

@@ -23,5 +23,5 @@ edited-room p e = omega arith
 -- after an undo and a redo, which move one edit between the two
 pub taken-room : {s : List ℕ} {p : Player} → Sound s p → (ks : Keys) (way : Way) → declines (takeRows way s p ks) ≡ 0 → takenPlayer way p .reach + takenPlayer way p .redo ≤ rows
 unfolding takeRows undonePlayer redonePlayer
-taken-room {s} {p} w ks Undo e = omega (arith, w .counts .room, above-zero (p .reach) (held (takeRows Undo s p ks) tt e .1 .0))
-taken-room {s} {p} w ks Redo e = omega (arith, w .counts .room, above-zero (p .redo) (held (takeRows Redo s p ks) tt e .1 .0))
+taken-room {s} {p} w ks Undo e = omega (arith, w .counts .room, above-zero (p .reach) (held (takeRows Undo s p ks) tt e .1 .1 .0))
+taken-room {s} {p} w ks Redo e = omega (arith, w .counts .room, above-zero (p .redo) (held (takeRows Redo s p ks) tt e .1 .1 .0))

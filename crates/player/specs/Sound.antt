@@ -1,18 +1,19 @@
--- What a player whose state is not broken tells (row 5 of the table): its counts are within their bounds. Assumes nothing.
+-- What a player whose state is not broken tells (row 5 of the table): its counts are within their bounds, its used rows and its open drag name keys of the sheet. Assumes nothing.
 use Prim.Native.Nat.{ℕ, _+_, _-_, _≤_, _<_}
-use mathlib.Core.Path.{_≡_, refl}
-use mathlib.Core.Bool.{Bool, true, false, _&&_, _||_}
+use mathlib.Core.Path.{_≡_}
+use mathlib.Core.Bool.{true}
 use mathlib.Core.List.{List}
 use native.Mathlib.Omega.{arith}
 use borrow.Author.Tests.{leb-true, ltb-true, eqb-true, ne-eqb}
-use lib.Dec.{leb, ltb, eqb}
-use Rattle.laws.specs.Tests.{both, and-1, and-2}
+use lib.Dec.{leb, eqb}
+use Rattle.laws.specs.Tests.{both}
 use Rattle.laws.specs.Below.{allBelow, all-at}
 use Rattle.float.specs.Numbers.{finite}
 use Rattle.sheet.specs.Sizes.{animationCount}
 use Rattle.player.specs.declared.Player.{Player}
 use Rattle.player.specs.Journal.{rowOf, rows}
 use Rattle.edit.specs.Edit.{none}
+use Rattle.player.specs.Drag.{dragOk}
 use Rattle.player.specs.Player.{most, selectionOk, entryOk, usedOk, countsOk, playerOk}
 
 pub record Counts (reach redo accepted undone redone standing : ℕ) : Type 0 where
@@ -48,14 +49,16 @@ pub record Sound (s : List ℕ) (p : Player) : Type 0 where
   pub frame : finite (p .frame) ≡ true
   pub counts : Counts (p .reach) (p .redo) (p .accepted) (p .undone) (p .redone) (p .standing)
   pub used : allBelow (p .reach + p .redo) (usedOk s (p .journal) (p .standing - p .reach)) ≡ true
+  pub drag : dragOk s (p .drag) ≡ true
 
 pub sound : (s : List ℕ) (p : Player) → playerOk s p ≡ true → Sound s p
 unfolding playerOk
 sound s p e =
-    let c = both _ (allBelow (p .reach + p .redo) (usedOk s (p .journal) (p .standing - p .reach))) e in
+    let d = both _ (dragOk s (p .drag)) e in
+    let c = both _ (allBelow (p .reach + p .redo) (usedOk s (p .journal) (p .standing - p .reach))) (d .0) in
     let b = both _ (countsOk (p .reach) (p .redo) (p .accepted) (p .undone) (p .redone) (p .standing)) (c .0) in
     let a = both (selectionOk s (p .selection)) (finite (p .frame)) (b .0) in
-    record { selection = a .0; frame = a .1; counts = counts _ _ _ _ _ _ (b .1); used = c .1 }
+    record { selection = a .0; frame = a .1; counts = counts _ _ _ _ _ _ (b .1); used = c .1; drag = d .1 }
 
 module _ {s : List ℕ} {p : Player} (w : Sound s p) where
   -- what is selected is one of the animations

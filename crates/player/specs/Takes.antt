@@ -2,7 +2,7 @@
 -- (document 01, "What a call declines"). Assumes nothing.
 use Prim.Native.Nat.{ℕ, _-_, _<_}
 use mathlib.Core.Path.{_≡_, refl}
-use mathlib.Core.Bool.{Bool, true, _&&_}
+use mathlib.Core.Bool.{Bool, true, false, _&&_}
 use mathlib.Core.List.{List}
 use native.Mathlib.Omega.{arith}
 use borrow.Author.Tests.{ne-eqb}
@@ -54,11 +54,15 @@ pub returnable : {s : List ℕ} {ks : Keys} {n : ℕ} {e : Entry} → Takeable s
 returnable w d = record { sheet = w .sheet; rules = w .rules; entry = w .entry d }
 
 -- row 5's test, from what the calls give
-module _ (s : List ℕ) (ks : Keys) (n : ℕ) (e : Entry) where
-  pub take-none : n ≡ 0 → true ≡ takeFits s ks n e
+module _ (s : List ℕ) (ks : Keys) (dragging : Bool) (n : ℕ) (e : Entry) where
+  pub take-open : dragging ≡ true → true ≡ takeFits s ks dragging n e
   unfolding takeFits
-  take-none z = rw z
+  take-open o = rw o
 
-  pub take-some : {r : Bool} → (n ≡ 0 → ⊥) → r ≡ takesOk s ks e → r ≡ takeFits s ks n e
+  pub take-none : dragging ≡ false → n ≡ 0 → true ≡ takeFits s ks dragging n e
   unfolding takeFits
-  take-some d h = rw (ne-eqb n 0 d) h
+  take-none o z = rw (o, z)
+
+  pub take-some : {r : Bool} → dragging ≡ false → (n ≡ 0 → ⊥) → r ≡ takesOk s ks e → r ≡ takeFits s ks dragging n e
+  unfolding takeFits
+  take-some o d h = rw (o, ne-eqb n 0 d) h

@@ -1,4 +1,4 @@
--- Undo and redo (document 01, "Playing and editing"): the entry that each takes, when it may not be taken (rows 5 and 11 of the table), and the
+-- Undo and redo (document 01, "Playing and editing"): the entry that each takes, when it may not be taken (rows 5, 15 and 11 of the table), and the
 -- counts after it. Both are one step over an entry, whose key must be as the entry finds it and is then as the entry leaves it. Definitions only.
 use Prim.Native.Nat.{ℕ, _+_, _-_}
 use mathlib.Core.Bool.{Bool, not, _&&_, _||_}
@@ -35,17 +35,18 @@ entryOf Redo p = rowOf (p .journal) (p .standing)
 unfoldable pub takesOk : List ℕ → Keys → Entry → Bool
 takesOk s ks e = sameKey (keyAt ks (place s (e .track) (e .key))) (e .before) && keysOkOf s (putKey ks (place s (e .track) (e .key)) (e .after))
 
--- row 5 of an undo and a redo, of n entries, e the first: there is none to take, or it may be taken
-unfoldable pub takeFits : List ℕ → Keys → ℕ → Entry → Bool
-takeFits s ks n e = eqb n 0 || takesOk s ks e
+-- row 5 of an undo and a redo, of n entries, e the first: there is none to take, or it may be taken. "While a drag is open, row 5 asks nothing of the
+-- entry" (document 02, 2/13).
+unfoldable pub takeFits : List ℕ → Keys → Bool → ℕ → Entry → Bool
+takeFits s ks dragging n e = dragging || (eqb n 0 || takesOk s ks e)
 
--- row 11: of n entries, one can be taken
-abbrev pub someRows : ℕ → List Row
-someRows n = row 11 (not (eqb n 0)) ∷ []
+-- rows 15 and 11: no drag is open; of n entries, one can be taken
+abbrev pub someRows : Bool → ℕ → List Row
+someRows dragging n = row 15 (not dragging) ∷ row 11 (not (eqb n 0)) ∷ []
 
--- both rows, of a player whose state is not broken
+-- these rows, of a player whose state is not broken
 unfoldable pub takeRows : Way → List ℕ → Player → Keys → List Row
-takeRows way s p ks = row 5 (takeFits s ks (entries way p) (entryOf way p)) ∷ someRows (entries way p)
+takeRows way s p ks = row 5 (takeFits s ks (p .drag .«open») (entries way p) (entryOf way p)) ∷ someRows (p .drag .«open») (entries way p)
 
 -- the keys with an entry taken
 unfoldable pub takenKeys : List ℕ → Keys → Entry → Keys

@@ -1,10 +1,12 @@
-// The player: what is selected and shown, and the journal of the edits that can be undone and redone.
+// The player: what is selected and shown, the journal of the edits that can be undone and redone, and the key that is dragged.
+pub mod drag;
 pub mod editing;
 pub mod journal;
 pub mod playing;
 pub mod state;
 pub mod undo;
 
+use drag::Drag;
 use edit::NONE;
 use journal::Journal;
 ghost use mathlib.Core.Path.{_≡_};
@@ -25,6 +27,7 @@ pub struct Player {
     pub redone: u64,
     pub standing: u64,
     pub journal: Journal,
+    pub drag: Drag,
 }
 
 // What a tick answers: nothing moved; the animation goes on; it ended; it ended and names the one that comes next.
@@ -51,6 +54,7 @@ impl Player {
             redone: 0,
             standing: 0,
             journal: Journal::fresh(),
+            drag: Drag::closed(),
         }
     }
 }

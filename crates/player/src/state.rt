@@ -85,8 +85,15 @@ impl Player {
         ) {
             return false;
         }
-        let first = self.standing - self.reach;
+        if !self.drag.ok(s) {
+            return false;
+        }
         let n = self.reach + self.redo;
+        // No row is used, and the journal need not be copied.
+        if n == 0 {
+            return true;
+        }
+        let first = self.standing - self.reach;
         self.journal.rows_ok(s, first, n)
     }
 }

@@ -55,11 +55,22 @@ pub fn entries(way: Way, reach: u64, redo: u64) -> u64
     }
 }
 
-// Row 5 of an undo or a redo that takes e, the first of n entries: there is none, or it may be taken.
-pub fn take_fits(s: &[u8], frames: &[f32], values: &[f32], slopes: &[f32], n: u64, e: Entry) -> bool
+// Row 5 of an undo or a redo that takes e, the first of n entries: there is none, or it may be taken. While a drag is open, nothing is asked.
+pub fn take_fits(
+    s: &[u8],
+    frames: &[f32],
+    values: &[f32],
+    slopes: &[f32],
+    dragging: bool,
+    n: u64,
+    e: Entry,
+) -> bool
     requires { ⌜ Takeable (now s) (lent frames values slopes) n e ⌝ }
-    ensures { λ r. ⌜ r ≡ takeFits (now (s .entry)) (lent (frames .entry) (values .entry) (slopes .entry)) n e ⌝ }
+    ensures { λ r. ⌜ r ≡ takeFits (now (s .entry)) (lent (frames .entry) (values .entry) (slopes .entry)) dragging n e ⌝ }
 {
+    if dragging {
+        return true;
+    }
     if n == 0 {
         return true;
     }

@@ -7,11 +7,11 @@ use Rattle.laws.specs.Rows.{declines}
 use Rattle.keys.specs.Load.{loadOf}
 use Rattle.uv.specs.Calls.{Filling, uvs-keeps}
 use Rattle.player.specs.Parts.{View, viewOf}
-use Rattle.menu.specs.Calls.{playOf, poseOf, tickOf, editOf, takeOf, loadedOf, writtenBy, saveOf}
+use Rattle.menu.specs.Calls.{playOf, poseOf, tickOf, editOf, takeOf, openOf, dragOf, dropOf, abandonOf, loadedOf, writtenBy, saveOf}
 use Rattle.menu_readings.specs.Readings.{tablesOf, cascadedOf}
 use Rattle.menu_c.specs.Naming.{nextNameInto, textureNameInto}
 use Rattle.machine.specs.Asks.{Ask, paneChannel, materialChannel, all, pane, layer, texture, cascade, askTable, tellIn}
-use Rattle.machine.specs.Calls.{Call, play, pose, tick, edit, undo, redo, ask, save, State, stepP}
+use Rattle.machine.specs.Calls.{Call, play, pose, tick, edit, undo, redo, openDrag, drag, dropDrag, abandonDrag, ask, save, State, stepP}
 use Rattle.machine.proofs.Ask.{tell-is}
 use Rattle.refusals.specs.Outward.{Outward, made, load, nextName, nextNameOut, textureNameOut, uvs, corners, translate, rotatePoint}
 use Rattle.refusals.specs.Table.{callTable, tableOf, refusalOf}
@@ -29,13 +29,17 @@ told-keeps s b v t n (texture m k) d = refl
 told-keeps s b v t n (cascade visible alpha influence) d = rw (ne-eqb n 0 d)
 
 call-keeps : (s : List ℕ) (c : Call) (t : State) → (declines (callTable s c t) ≡ 0 → ⊥) → callAfter (stepP s c t) ≡ callBefore c t
-unfolding callTable playOf poseOf tickOf editOf takeOf saveOf writtenBy
+unfolding callTable playOf poseOf tickOf editOf takeOf openOf dragOf dropOf abandonOf saveOf writtenBy
 call-keeps s (play a) t d = rw (ne-eqb (declines (callTable s (play a) t)) 0 d)
 call-keeps s (pose a x) t d = rw (ne-eqb (declines (callTable s (pose a x) t)) 0 d)
 call-keeps s (tick dt fps) t d = rw (ne-eqb (declines (callTable s (tick dt fps) t)) 0 d)
 call-keeps s (edit track key r) t d = rw (ne-eqb (declines (callTable s (edit track key r) t)) 0 d)
 call-keeps s undo t d = rw (ne-eqb (declines (callTable s undo t)) 0 d)
 call-keeps s redo t d = rw (ne-eqb (declines (callTable s redo t)) 0 d)
+call-keeps s (openDrag track key) t d = rw (ne-eqb (declines (callTable s (openDrag track key) t)) 0 d)
+call-keeps s (drag x v) t d = rw (ne-eqb (declines (callTable s (drag x v) t)) 0 d)
+call-keeps s dropDrag t d = rw (ne-eqb (declines (callTable s dropDrag t)) 0 d)
+call-keeps s abandonDrag t d = rw (ne-eqb (declines (callTable s abandonDrag t)) 0 d)
 call-keeps s (ask b q) t d =
     ap (leftBy t) (tell-is s b (t .player) (t .keys) q) ∙ told-keeps s b (viewOf (t .player)) t (declines (askTable s b (t .player) (t .keys) q)) q d
 call-keeps s (save o) t d = rw (ne-eqb (declines (callTable s (save o) t)) 0 d)

@@ -9,12 +9,12 @@ use Rattle.uv.specs.Calls.{uvs-number}
 use Rattle.corner.specs.Refused.{corners-number, corners-zero, translate-number, translate-zero, rotate-number, rotate-zero}
 use Rattle.player.specs.declared.Player.{Player}
 use Rattle.edit.specs.Keys.{Keys}
-use Rattle.menu.specs.Calls.{playOf, poseOf, tickOf, editOf, takeOf, loadedOf, nextNameOf, writtenBy, saveOf}
+use Rattle.menu.specs.Calls.{playOf, poseOf, tickOf, editOf, takeOf, openOf, dragOf, dropOf, abandonOf, loadedOf, nextNameOf, writtenBy, saveOf}
 use Rattle.menu_readings.specs.Readings.{oneOf, paneOf, layerOf, tablesOf, cascadedOf, readPaneOf, readMaterialOf, readAllOf, resolvePaneOf, resolveSrtOf, textureNameOf, cascadeOf}
 use Rattle.menu_c.specs.Naming.{nextNameInto, textureNameInto}
 use Rattle.menu_c.specs.Long.{next-long, texture-long}
 use Rattle.machine.specs.Asks.{Ask, paneChannel, materialChannel, all, pane, layer, texture, cascade, askTable, tellOf}
-use Rattle.machine.specs.Calls.{Call, play, pose, tick, edit, undo, redo, ask, save, told, State, stepP}
+use Rattle.machine.specs.Calls.{Call, play, pose, tick, edit, undo, redo, openDrag, drag, dropDrag, abandonDrag, ask, save, told, State, stepP}
 use Rattle.refusals.specs.Outward.{Outward, made, load, nextName, nextNameOut, textureNameOut, uvs, corners, translate, rotatePoint}
 use Rattle.refusals.specs.Table.{callTable, tableOf, refusalOf}
 use Rattle.refusals.specs.Given.{Says, Answers, Alone, AnswersAlone}
@@ -32,13 +32,17 @@ ask-answers s b p ks (texture m k) = (λ d. rw (ne-eqb (declines (askTable s b p
 ask-answers s b p ks (cascade visible alpha influence) = refl
 
 call-answers : (s : List ℕ) (c : Call) (t : State) → Says (stepP s c t .1) (declines (callTable s c t))
-unfolding callTable playOf poseOf tickOf editOf takeOf saveOf writtenBy
+unfolding callTable playOf poseOf tickOf editOf takeOf openOf dragOf dropOf abandonOf saveOf writtenBy
 call-answers s (play a) t = refl
 call-answers s (pose a x) t = refl
 call-answers s (tick dt fps) t = refl
 call-answers s (edit track key r) t = refl
 call-answers s undo t = refl
 call-answers s redo t = refl
+call-answers s (openDrag track key) t = refl
+call-answers s (drag x v) t = refl
+call-answers s dropDrag t = refl
+call-answers s abandonDrag t = refl
 call-answers s (ask b q) t = ask-answers s b (t .player) (t .keys) q
 call-answers s (save o) t = refl
 
@@ -74,6 +78,10 @@ call-alone s (tick dt fps) t d = let e = ne-eqb (declines (callTable s (tick dt 
 call-alone s (edit track key r) t d = tt
 call-alone s undo t d = tt
 call-alone s redo t d = tt
+call-alone s (openDrag track key) t d = tt
+call-alone s (drag x v) t d = tt
+call-alone s dropDrag t d = tt
+call-alone s abandonDrag t d = tt
 call-alone s (ask b q) t d = ask-alone s b (t .player) (t .keys) q d
 call-alone s (save o) t d = tt
 

@@ -11,13 +11,13 @@ use Rattle.keys.specs.Load.{loadTable}
 use Rattle.uv.specs.Declined.{uvsTable}
 use Rattle.corner.specs.Declined.{rotationRows, cornersTable, translateTable, rotateTable}
 use Rattle.edit.specs.declared.request.Request.the-variants as request
-use Rattle.edit.specs.Edit.{requestRows, editRows}
+use Rattle.edit.specs.Edit.{requestRows, trackRows, editRows}
 use Rattle.player.specs.Undo.{takeRows}
-use Rattle.menu.specs.Rows.{playRows, poseRows, tickRows, saveRows, playTable, poseTable, tickTable, editTable, takeTable, saveTable, nextNameTable}
+use Rattle.menu.specs.Rows.{playRows, poseRows, tickRows, dragRows, saveRows, playTable, poseTable, tickTable, editTable, takeTable, openTable, dragTable, closeTable, saveTable, nextNameTable}
 use Rattle.menu_readings.specs.Rows.{paneRows, paneChannelRows, materialChannelRows, layerRows, tablesRows, cascadeRows, readPaneTable, readMaterialTable, readAllTable, resolvePaneTable, resolveSrtTable, textureNameTable, cascadeTable}
 use Rattle.menu_c.specs.Naming.{nameRows, nextNameOutTable, textureNameOutTable}
 use Rattle.machine.specs.Asks.{paneChannel, materialChannel, all, pane, layer, texture, cascade, askTable}
-use Rattle.machine.specs.Calls.{Call, play, pose, tick, edit, undo, redo, ask, save, State}
+use Rattle.machine.specs.Calls.{Call, play, pose, tick, edit, undo, redo, openDrag, drag, dropDrag, abandonDrag, ask, save, State}
 use Rattle.refusals.specs.Outward.{Outward, made, load, nextName, nextNameOut, textureNameOut, uvs, corners, translate, rotatePoint}
 use Rattle.refusals.specs.Table.{callTable, tableOf, callNumbers, numbersOf, refusalOf}
 
@@ -27,7 +27,7 @@ pub record Ordered (rs : List Row) (ns : List ℕ) : Type 0 where
   pub ordered : inOrder order rs ≡ true
 
 call-ordered : (s : List ℕ) (c : Call) (t : State) → Ordered (callTable s c t) (callNumbers c)
-unfolding inOrder isIn from callTable askTable requestRows editRows takeRows playRows poseRows tickRows saveRows paneRows paneChannelRows materialChannelRows layerRows tablesRows cascadeRows playTable poseTable tickTable editTable takeTable saveTable readPaneTable readMaterialTable readAllTable resolvePaneTable resolveSrtTable textureNameTable cascadeTable
+unfolding inOrder isIn from callTable askTable requestRows trackRows editRows takeRows playRows poseRows tickRows dragRows saveRows paneRows paneChannelRows materialChannelRows layerRows tablesRows cascadeRows playTable poseTable tickTable editTable takeTable openTable dragTable closeTable saveTable readPaneTable readMaterialTable readAllTable resolvePaneTable resolveSrtTable textureNameTable cascadeTable
 call-ordered s (play a) t = record { same = refl; ordered = refl }
 call-ordered s (pose a x) t = record { same = refl; ordered = refl }
 call-ordered s (tick dt fps) t = record { same = refl; ordered = refl }
@@ -35,6 +35,10 @@ call-ordered s (edit track key (request.Key x v)) t = record { same = refl; orde
 call-ordered s (edit track key (request.Slope m)) t = record { same = refl; ordered = refl }
 call-ordered s undo t = record { same = refl; ordered = refl }
 call-ordered s redo t = record { same = refl; ordered = refl }
+call-ordered s (openDrag track key) t = record { same = refl; ordered = refl }
+call-ordered s (drag x v) t = record { same = refl; ordered = refl }
+call-ordered s dropDrag t = record { same = refl; ordered = refl }
+call-ordered s abandonDrag t = record { same = refl; ordered = refl }
 call-ordered s (ask b (paneChannel i c)) t = record { same = refl; ordered = refl }
 call-ordered s (ask b (materialChannel m c)) t = record { same = refl; ordered = refl }
 call-ordered s (ask b (all marks numbers)) t = record { same = refl; ordered = refl }

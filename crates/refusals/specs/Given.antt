@@ -17,7 +17,7 @@ use Rattle.menu_readings.specs.Readings.{noPane, noLayer}
 use Rattle.field.specs.Name.{nameBytes}
 use Rattle.menu_c.specs.Naming.{nextNameInto, textureNameInto}
 use Rattle.machine.specs.Asks.{Ask, paneChannel, materialChannel, all, pane, layer, texture, cascade, Told, one, tables, resolvedPane, resolvedLayer, name, cascaded}
-use Rattle.machine.specs.Calls.{Call, play, pose, tick, edit, undo, redo, ask, save, Answer, number, ticked, told, written, State, stepP}
+use Rattle.machine.specs.Calls.{Call, play, pose, tick, edit, undo, redo, openDrag, drag, dropDrag, abandonDrag, ask, save, Answer, number, ticked, told, written, State, stepP}
 use Rattle.refusals.specs.Outward.{Outward, made, load, nextName, nextNameOut, textureNameOut, uvs, corners, translate, rotatePoint}
 
 -- ---- the number
@@ -118,6 +118,10 @@ callBefore (tick dt fps) t = lentWith t [] []
 callBefore (edit track key r) t = lentWith t [] []
 callBefore undo t = lentWith t [] []
 callBefore redo t = lentWith t [] []
+callBefore (openDrag track key) t = lentWith t [] []
+callBefore (drag x v) t = lentWith t [] []
+callBefore dropDrag t = lentWith t [] []
+callBefore abandonDrag t = lentWith t [] []
 callBefore (ask b q) t = lentTo t q
 callBefore (save o) t = lentWith t (o ∷ []) []
 

@@ -10,7 +10,7 @@ use Rattle.edit.specs.Keys.{Keys}
 use Rattle.machine.specs.Calls.{Call, State}
 
 pub data Outward : Type 0 where
-  -- play, pose, tick, both edits, undo, redo, the readings and saving
+  -- play, pose, tick, both edits, undo, redo, a drag's four, the readings and saving
   made : Call → State → Outward
   -- loading into three arrays
   load : Keys → Outward

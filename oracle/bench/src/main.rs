@@ -2,6 +2,7 @@
 //! same inputs. Prints the tables of docs/BENCHMARKS.md: microseconds a call,
 //! the median and in brackets the tenth part below and above.
 
+mod drags;
 mod menus;
 mod rows;
 mod timing;
@@ -52,6 +53,10 @@ fn menu_table(name: &str, mut menu: Menu) {
     both("cascade with its checks", rows::cascade(&mut menu));
     both("tick with its checks", rows::tick(&mut menu));
     both("key edit with its checks", rows::edit(&mut menu));
+    let Both { ours, ratio, .. } = drags::drag(&mut menu);
+    println!("| drag with its checks | {ours} | | {ratio} × key edit |");
+    let Both { ours, ratio, .. } = drags::whole(&mut menu);
+    println!("| open, drag and drop with their checks | {ours} | | {ratio} × key edit |");
     row("undo or redo with its checks", None, rows::undo(&mut menu));
 }
 

@@ -1,6 +1,7 @@
 //! The plain machine beside the player with its journal, over many lists, and
 //! what the lists reach. `Walk` itself holds the two against each other.
 
+use cases::calls::drags::{self, Drags};
 use cases::calls::ends::{self, NextNames};
 use cases::calls::held::Held;
 use cases::calls::walk::{Step, Walk};
@@ -11,18 +12,21 @@ use cases::sheets::damage;
 
 #[test]
 fn lists_reach_every_refusal_and_long_journals() {
-    let mut refusals = [0u64; 15];
+    let mut refusals = [0u64; 16];
     let (mut calls, mut spoils, mut long, mut plain) = (0u64, 0u64, 0u64, 0u64);
     let mut next_names = NextNames::default();
+    let mut drags = Drags::default();
     let mut slots = [0u64; 3];
-    for seed in 0..4000 {
+    for seed in 0..8000 {
         let mut walk = Walk::of_seed(seed);
         let mut most = 0;
+        let mut drag = walk.held.player.drag;
         while let Some(step) = walk.step() {
             match step {
                 Step::Called(call, answer) => {
                     refusals[usize::from(answer.refusal)] += 1;
                     calls += 1;
+                    drags.add(&call, answer.refusal, &drag);
                     if let Told::Tick(tick) = &answer.told {
                         next_names.add(tick);
                     }
@@ -34,15 +38,18 @@ fn lists_reach_every_refusal_and_long_journals() {
                 Step::Spoiled(_) => spoils += 1,
             }
             most = most.max(walk.held.player.accepted);
+            drag = walk.held.player.drag;
         }
         long += u64::from(most > 128);
         plain += u64::from(walk.is_plain());
     }
     println!("{calls} calls, {spoils} spoils, {refusals:?}, {long} long, {plain} plain to the end");
-    let can_occur = [1, 2, 3, 4, 5, 6, 7, 8, 9, 10, 11, 13, 14];
+    let can_occur = [1, 2, 3, 4, 5, 6, 7, 8, 9, 10, 11, 13, 14, 15];
     assert!(can_occur.iter().all(|&n| refusals[n] > 50), "{refusals:?}");
     assert!(refusals[0] > calls / 2, "{refusals:?}");
     assert!(long > 50, "{long}");
+    println!("{:?}", drags.each());
+    assert!(drags.each().iter().all(|(_, count)| *count > 200));
     println!("{next_names:?}, slots {slots:?}");
     assert!(next_names.of_length.iter().all(|&n| n > 10));
     assert!(next_names.wide > 50);
@@ -50,11 +57,37 @@ fn lists_reach_every_refusal_and_long_journals() {
     assert!(slots.iter().all(|&n| n > 10), "{slots:?}");
 }
 
+/// Each state of a drag is met by each call, and row 9 where there is no room.
+#[test]
+fn short_lists_of_drags() {
+    for case in drags::cases() {
+        let mut drags = Drags::default();
+        let mut refusals = [0u64; 16];
+        for number in 0..drags::COUNT {
+            let mut walk = Walk::new(Random::new(0), &case.sheet, &case.book, 0);
+            for (i, call) in case.list(number).into_iter().enumerate() {
+                let before = walk.held.player.drag;
+                let Step::Called(_, answer) = walk.call(call) else {
+                    panic!("{call:?} is a call");
+                };
+                assert!(i >= case.start.len() || answer.refusal == 0, "{call:?}");
+                drags.add(&call, answer.refusal, &before);
+                refusals[usize::from(answer.refusal)] += 1;
+            }
+        }
+        println!("{}: {refusals:?} {:?}", case.what, drags.each());
+        assert!(drags.is_whole());
+        let away = if case.what == "nothing active" { 6 } else { 7 };
+        assert!([away, 11, 15].iter().all(|&n| refusals[n] > 0));
+        assert_eq!(refusals[9] > 0, case.what == "no room");
+    }
+}
+
 /// What is saved is the loaded sheet where no edit stands, and loads as the keys
 /// held.
 #[test]
 fn saves_keep_the_sheet_and_hold_the_keys() {
-    let mut refusals = [0u64; 15];
+    let mut refusals = [0u64; 16];
     let (mut unedited, mut undone) = (0u64, 0u64);
     for seed in 0..4000 {
         let mut walk = Walk::of_seed(seed);

@@ -1,12 +1,13 @@
-//! Document 01's known poses of ticks, edits and the cascade, and its sentences
-//! on undo and redo, of the plain machine and of the player beside it, which
-//! `Walk` holds against each other at every call.
+//! Document 01's known poses of ticks, edits and the cascade, its sentences on undo
+//! and redo, and document 02's on drags, of the plain machine and of the player
+//! beside it, which `Walk` holds against each other at every call.
 
-use cases::calls::player::ROWS;
+use cases::calls::player::{Player, ROWS};
 use cases::calls::walk::{Step, Walk};
 use cases::calls::{Answer, Call, Request, Tick, Told};
 use cases::curves::HERMITE;
 use cases::format::book::{Book, INFLUENCES_ALPHA, NO_PARENT, VISIBLE};
+use cases::format::load::Arrays;
 use cases::format::name;
 use cases::format::sheet::{Animation, Content, Sheet, Target};
 use cases::random::Random;
@@ -149,6 +150,67 @@ fn an_edit_empties_the_redo_list() {
     let p = &walk.held.player;
     let counts = (p.accepted, p.undone, p.redone, p.standing, p.reach);
     assert_eq!(counts, (3, 1, 0, 2, 2));
+}
+
+/// A walk with an edit that stands and one that can be made again, and then a drag of
+/// the last key, opened at frame 7; its player and keys before opening.
+fn opened() -> (Walk, Player, Arrays) {
+    let mut walk = walk(&sheet(true, &[0.0, 5.0]));
+    let calls = [Call::Play(0), edit(1, 7.0), edit(1, 8.0), Call::Undo];
+    for call in calls {
+        assert_eq!(refusal(&mut walk, call), 0);
+    }
+    let before = (walk.held.player.clone(), walk.held.keys.clone());
+    let open = Call::OpenDrag { track: 0, key: 1 };
+    assert_eq!(refusal(&mut walk, open), 0);
+    (walk, before.0, before.1)
+}
+
+fn drag(frame: f32) -> Call {
+    Call::Drag { frame, value: 2.0 }
+}
+
+/// "Drop leaves one standing edit, the last accepted request, and one journal entry
+/// with the key as it was at opening and is now".
+#[test]
+fn a_dropped_drag_is_one_edit() {
+    let (mut walk, before, _) = opened();
+    for frame in [9.0, 10.0, 11.0] {
+        assert_eq!(refusal(&mut walk, drag(frame)), 0);
+        assert_eq!(walk.held.player.standing, before.standing);
+    }
+    assert_eq!(refusal(&mut walk, Call::DropDrag), 0);
+    let p = &walk.held.player;
+    let counts = (p.accepted, p.undone, p.redone, p.standing, p.reach, p.redo);
+    assert_eq!(counts, (3, 1, 0, 2, 2, 0));
+    let entry = p.undo_entry();
+    assert_eq!(entry.before, [7.0f32, 1.0, 0.0].map(f32::to_bits));
+    assert_eq!(entry.after, [11.0f32, 2.0, 0.0].map(f32::to_bits));
+    assert_eq!(refusal(&mut walk, Call::Redo), 11);
+    assert_eq!(refusal(&mut walk, Call::Undo), 0);
+    assert_eq!(walk.held.keys[0][1], 7.0);
+}
+
+/// "with no accepted drag it leaves none and changes no count, reach or redo"
+#[test]
+fn a_drop_with_no_accepted_drag() {
+    let (mut walk, before, keys) = opened();
+    assert_eq!(refusal(&mut walk, drag(f32::NAN)), 8);
+    assert_eq!(refusal(&mut walk, Call::DropDrag), 0);
+    assert_eq!((&walk.held.player, &walk.held.keys), (&before, &keys));
+    assert_eq!(refusal(&mut walk, Call::DropDrag), 15);
+}
+
+/// "Abandon puts the key back, counts nothing and keeps reach and redo."
+#[test]
+fn an_abandoned_drag() {
+    let (mut walk, before, keys) = opened();
+    assert_eq!(refusal(&mut walk, drag(9.0)), 0);
+    assert_eq!(refusal(&mut walk, Call::Undo), 15);
+    assert_eq!(refusal(&mut walk, Call::AbandonDrag), 0);
+    assert_eq!((&walk.held.player, &walk.held.keys), (&before, &keys));
+    assert_eq!(refusal(&mut walk, Call::Redo), 0);
+    assert_eq!(walk.held.keys[0][1], 8.0);
 }
 
 /// A second content, for a pane named child.

@@ -29,7 +29,8 @@ impl Counts {
     fn in_state(&mut self, held: &mut Held, ours: &Ours) -> Option<String> {
         let (player, keys) = (held.player.clone(), held.keys.clone());
         for spoils in alone::spoils(held) {
-            let unedited = player.standing == 0 && spoils.iter().all(Spoil::is_plain);
+            let loaded = player.standing == 0 && !player.drag.moved;
+            let unedited = loaded && spoils.iter().all(Spoil::is_plain);
             for call in alone::calls() {
                 let back: Vec<Spoil> = spoils.iter().map(|spoil| spoil.make(held)).collect();
                 let mut spoiled = ours.clone();

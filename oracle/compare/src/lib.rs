@@ -2,6 +2,7 @@
 
 pub mod alone;
 pub mod arguments;
+pub mod both;
 pub mod lists;
 pub mod ours;
 pub mod probe;

@@ -1,9 +1,11 @@
 //! Runs of lists, and what they came to: how many calls of each kind, how many
 //! of each refusal, how many next names, how many sheets saved as they were and
-//! otherwise, how many lists with more edits than a journal holds.
+//! otherwise, how many calls in each state of a drag, how many lists with more edits
+//! than a journal holds.
 
 use crate::ours::Ours;
 use crate::saves::Saves;
+use cases::calls::drags::{self, Drags};
 use cases::calls::ends::{self, NextNames};
 use cases::calls::held::Held;
 use cases::calls::player::ROWS;
@@ -16,7 +18,7 @@ use cases::random::Random;
 use cases::sheets::damage;
 
 /// By a call's code.
-const KINDS: [&str; 16] = [
+const KINDS: [&str; 20] = [
     "play",
     "pose",
     "tick",
@@ -33,9 +35,13 @@ const KINDS: [&str; 16] = [
     "cascade",
     "next name",
     "save",
+    "open",
+    "drag",
+    "drop",
+    "abandon",
 ];
 
-const REFUSALS: usize = 15;
+const REFUSALS: usize = 16;
 
 #[derive(Default)]
 pub struct Counts {
@@ -48,6 +54,7 @@ pub struct Counts {
     /// that ended without one as the Rust's did.
     next_names: NextNames,
     saves: Saves,
+    drags: Drags,
     /// Lists that passed 128 edits, and those whose plain machine was beside
     /// to the end.
     long: u64,
@@ -90,6 +97,17 @@ impl Counts {
                 let list = short::list(number);
                 let what = self.list(sheet, book, &list)?;
                 Some(format!("{:?}, {list:?}: {what}", sheet.animations))
+            })
+        })
+    }
+
+    /// Every short list over a drag in each of the cases, and the first difference.
+    pub fn each_short_drag(&mut self) -> Option<String> {
+        drags::cases().iter().find_map(|case| {
+            (0..drags::COUNT).find_map(|number| {
+                let list = case.list(number);
+                let what = self.list(&case.sheet, &case.book, &list)?;
+                Some(format!("{}, {list:?}: {what}", case.what))
             })
         })
     }
@@ -140,6 +158,7 @@ impl Counts {
     ) -> Option<String> {
         self.calls += 1;
         self.of_kind[usize::from(call.code())][usize::from(plain.refusal)] += 1;
+        self.drags.add(call, plain.refusal, &ours.drag());
         let given = ours.step(call, held);
         if given != *plain {
             return Some(format!("{call:?}\n  plain {plain:?}\n  here  {given:?}"));
@@ -162,6 +181,11 @@ impl Counts {
     /// Whether some save came with all edits undone, and some gave another sheet.
     pub fn saved_both_ways(&self) -> bool {
         self.saves.both_ways()
+    }
+
+    /// Whether each call met each state of a drag.
+    pub fn dragged_all_ways(&self) -> bool {
+        self.drags.is_whole()
     }
 
     /// Whether some tick ended with a next name, and some without one.
@@ -201,6 +225,9 @@ impl Counts {
             occurred(of_length, 0)
         );
         self.saves.print();
+        let drags = self.drags.each();
+        let drags: Vec<String> = drags.map(|(what, count)| format!("{what} {count}")).into();
+        println!("drags: {}", drags.join(", "));
     }
 }
 

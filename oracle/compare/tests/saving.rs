@@ -4,121 +4,30 @@
 use cases::bits::EDGES;
 use cases::calls::player::ROWS;
 use cases::calls::spoil::{self, Spoil};
-use cases::calls::walk::{Step, Walk};
-use cases::calls::{Answer, Call, FILL_BYTE, Request, Told};
-use cases::curves::HERMITE;
-use cases::format::sheet::{Animation, Content, LONGEST, Sheet, Target};
+use cases::calls::{Call, FILL_BYTE, Told};
+use cases::format::sheet::{Animation, LONGEST, Sheet, Target};
 use cases::random::Random;
 use cases::sheets::{damage, good};
-use compare::ours::Ours;
+use compare::both::{Both, field, hermite, key_edit, slope_edit};
 
 const SAVE: Call = Call::Save { short: 0 };
 
 const MINUS_ZERO: f32 = -0.0;
 const SMALLEST: f32 = f32::from_bits(1);
 
-struct Both {
-    walk: Walk,
-    ours: Ours,
-}
-
-impl Both {
-    fn load(sheet: &Sheet) -> Self {
-        let (_, book) = damage::base_pair();
-        let walk = Walk::new(Random::new(0), sheet, &book, 0);
-        let ours = Ours::load(&walk.held.sheet_bytes);
-        Self { walk, ours }
-    }
-
-    /// The same with the first animation selected.
-    fn play(sheet: &Sheet) -> Self {
-        let mut both = Self::load(sheet);
-        both.accept(Call::Play(0));
-        both
-    }
-
-    fn call(&mut self, call: Call) -> Answer {
-        let Step::Called(_, plain) = self.walk.call(call) else {
-            panic!("{call:?} is a call");
-        };
-        self.same(call, plain)
-    }
-
-    /// Without the plain machine, which has no spoiled states.
-    fn spoiled_call(&mut self, call: Call) -> Answer {
-        let plain = self.walk.held.step(&call);
-        self.same(call, plain)
-    }
-
-    fn same(&mut self, call: Call, plain: Answer) -> Answer {
-        let held = &self.walk.held;
-        assert_eq!(self.ours.step(&call, held), plain, "{call:?}");
-        assert!(self.ours.is(held), "{call:?}");
-        plain
-    }
-
-    fn accept(&mut self, call: Call) {
-        assert_eq!(self.call(call).refusal, 0, "{call:?}");
-    }
-
-    fn save(&mut self) -> Vec<u8> {
-        let answer = self.call(SAVE);
-        let written = answer.saved().expect("it is accepted").to_vec();
-        assert_eq!(self.ours.again(&written), Ok(()));
-        written
-    }
-
-    fn loaded(&self) -> Vec<u8> {
-        self.walk.held.sheet_bytes.clone()
-    }
-
-    /// Saves into a buffer of each length, all of which are declined and left.
-    fn declined(&mut self, shorts: &[u8], refusal: u8) {
-        for &short in shorts {
-            let answer = self.spoiled_call(Call::Save { short });
-            let length = self.walk.held.buffer_length(short);
-            let left = Told::Saved(vec![FILL_BYTE; length]);
-            assert_eq!((answer.refusal, answer.told), (refusal, left), "{short}");
-        }
-    }
-
-    fn spoil(&mut self, spoil: &Spoil) -> Spoil {
-        self.ours.spoil(spoil);
-        spoil.make(&mut self.walk.held)
+/// Saves into a buffer of each length, all of which are declined and left.
+fn declined(both: &mut Both, shorts: &[u8], refusal: u8) {
+    for &short in shorts {
+        let answer = both.spoiled_call(Call::Save { short });
+        let length = both.held().buffer_length(short);
+        let left = Told::Saved(vec![FILL_BYTE; length]);
+        assert_eq!((answer.refusal, answer.told), (refusal, left), "{short}");
     }
 }
 
-/// One animation, one Hermite curve with one key, all numbers 0.
+/// One key, all of its numbers 0.
 fn one_key() -> Sheet {
-    Sheet {
-        animations: vec![Animation::default()],
-        contents: vec![Content::default()],
-        targets: vec![Target {
-            curve: HERMITE,
-            key_count: 1,
-            ..Target::default()
-        }],
-        frames: vec![0.0],
-        values: vec![0.0],
-        slopes: vec![0.0],
-        ..Sheet::default()
-    }
-}
-
-fn key_edit(track: u16, key: u16, frame: f32, value: f32) -> Call {
-    Call::Edit {
-        track,
-        key,
-        request: Request::Key { frame, value },
-    }
-}
-
-fn slope_edit(track: u16, key: u16, slope: f32) -> Call {
-    Call::Edit {
-        track,
-        key,
-        request: Request::Slope(slope),
-    }
+    hermite(&[0.0])
 }
 
 /// An edit of the base's middle Hermite key, no two alike.
@@ -154,16 +63,16 @@ fn no_keys() {
     for sheet in [with_rows, alone] {
         let mut both = Both::load(&sheet);
         assert_eq!(both.save(), both.loaded());
-        both.declined(&[1, 2, 3], 14);
+        declined(&mut both, &[1, 2, 3], 14);
     }
 }
 
 #[test]
 fn a_buffer_of_another_length() {
     let mut both = Both::play(&damage::sheet::base());
-    both.declined(&[1, 2, 3], 14);
+    declined(&mut both, &[1, 2, 3], 14);
     both.accept(edit(1));
-    both.declined(&[1, 2, 3], 14);
+    declined(&mut both, &[1, 2, 3], 14);
 }
 
 /// Rows 1, 3, 4 and 5 decline before 14, and the lowest of them first.
@@ -172,13 +81,8 @@ fn the_rows_in_order() {
     let mut both = Both::play(&damage::sheet::base());
     both.accept(edit(1));
     let sheet = both.loaded();
-    let player = |field, value| Spoil::Field {
-        field,
-        row: 0,
-        value,
-    };
     let rows = [
-        (player(spoil::STANDING, 2), 5),
+        (field(spoil::STANDING, 2), 5),
         (
             Spoil::Key {
                 array: 0,
@@ -192,14 +96,14 @@ fn the_rows_in_order() {
     ];
     for (spoil, refusal) in &rows {
         let back = both.spoil(spoil);
-        both.declined(&[0, 1, 2, 3], *refusal);
+        declined(&mut both, &[0, 1, 2, 3], *refusal);
         both.spoil(&back);
-        both.declined(&[1, 2, 3], 14);
+        declined(&mut both, &[1, 2, 3], 14);
     }
     // Each of them with all that come after it.
     for (spoil, refusal) in &rows {
         both.spoil(spoil);
-        both.declined(&[0, 1, 2, 3], *refusal);
+        declined(&mut both, &[0, 1, 2, 3], *refusal);
     }
 }
 
@@ -239,7 +143,7 @@ fn patterns_survive() {
         both.accept(key_edit(0, 0, number, number));
         both.accept(slope_edit(0, 0, number));
         let saved = Sheet::read(&both.save()).expect("a sheet");
-        let frame = both.walk.held.keys[0][0];
+        let frame = both.held().keys[0][0];
         let numbers = [saved.frames[0], saved.values[0], saved.slopes[0]];
         let expected = [frame, number, number];
         assert_eq!(numbers.map(f32::to_bits), expected.map(f32::to_bits));
@@ -266,7 +170,7 @@ fn more_edits_than_can_be_undone() {
     (0..EDITS).for_each(|n| both.accept(edit(n)));
     (0..ROWS).for_each(|_| both.accept(Call::Undo));
     assert_eq!(both.call(Call::Undo).refusal, 11);
-    assert_eq!(both.walk.held.player.standing, (EDITS - ROWS) as u64);
+    assert_eq!(both.held().player.standing, (EDITS - ROWS) as u64);
     let saved = Sheet::read(&both.save()).expect("a sheet");
     assert_ne!(saved.write(), both.loaded());
     assert_eq!(saved.values[1], (EDITS - ROWS - 1) as f32);
@@ -307,7 +211,7 @@ fn the_longest_sheet() {
     let mut both = Both::load(&sheet);
     assert_eq!(both.loaded().len(), LONGEST);
     assert_eq!(both.save(), both.loaded());
-    both.declined(&[1, 2, 3], 14);
+    declined(&mut both, &[1, 2, 3], 14);
 
     let last = sheet.targets.iter().rposition(|t| t.key_count > 0);
     let track = last.expect("it has keys");

@@ -16,14 +16,27 @@ static int failed = 0;
     } while (0)
 
 _Static_assert(sizeof(menu_journal) == 3584, "menu_journal");
-_Static_assert(sizeof(menu_player) == 3640, "menu_player");
-_Static_assert(sizeof(menu_played) == 3648, "menu_played");
-_Static_assert(sizeof(menu_ticked) == 3648, "menu_ticked");
+_Static_assert(sizeof(menu_drag_state) == 20, "menu_drag_state");
+_Static_assert(sizeof(menu_player) == 3664, "menu_player");
+_Static_assert(sizeof(menu_played) == 3672, "menu_played");
+_Static_assert(sizeof(menu_ticked) == 3672, "menu_ticked");
 _Static_assert(sizeof(menu_read_one) == 8, "menu_read_one");
 _Static_assert(sizeof(menu_resolved_pane) == 48, "menu_resolved_pane");
 _Static_assert(sizeof(menu_resolved_srt) == 24, "menu_resolved_srt");
 _Static_assert(sizeof(menu_placed) == 36, "menu_placed");
 _Static_assert(sizeof(menu_turned) == 12, "menu_turned");
+
+_Static_assert(offsetof(menu_player, selection) == 0 && offsetof(menu_player, playing) == 2, "menu_player");
+_Static_assert(offsetof(menu_player, preview) == 3 && offsetof(menu_player, frame) == 4, "menu_player");
+_Static_assert(offsetof(menu_player, reach) == 8 && offsetof(menu_player, redo) == 16, "menu_player");
+_Static_assert(offsetof(menu_player, accepted) == 24 && offsetof(menu_player, undone) == 32, "menu_player");
+_Static_assert(offsetof(menu_player, redone) == 40 && offsetof(menu_player, standing) == 48, "menu_player");
+_Static_assert(offsetof(menu_player, journal) == 56 && offsetof(menu_player, drag) == 3640, "menu_player");
+_Static_assert(offsetof(menu_drag_state, open) == 0 && offsetof(menu_drag_state, moved) == 1, "menu_drag_state");
+_Static_assert(offsetof(menu_drag_state, track) == 2 && offsetof(menu_drag_state, key) == 4, "menu_drag_state");
+_Static_assert(offsetof(menu_drag_state, start_frame) == 8, "menu_drag_state");
+_Static_assert(offsetof(menu_drag_state, start_value) == 12, "menu_drag_state");
+_Static_assert(offsetof(menu_drag_state, start_slope) == 16, "menu_drag_state");
 
 enum { KEYS = 9, PANES = 2, CHANNELS = PANES * MENU_PANE_CHANNELS + MENU_MATERIAL_CHANNELS, TRACK = 3, KEY = 1, PLACE = 6 };
 
@@ -99,6 +112,66 @@ static void editing(menu_player player) {
     undone = menu_undo(redone.player, sheet, sheet_len, LENT_KEYS);
     CHECK(undone.player.reach == 0 && undone.player.redo == 2 && undone.player.undone == 3);
     CHECK(undone.player.accepted == 2 && undone.player.redone == 1 && undone.player.standing == 0);
+}
+
+static bool same_drag(menu_drag_state a, menu_drag_state b) {
+    return a.open == b.open && a.moved == b.moved && a.track == b.track && a.key == b.key &&
+           a.start_frame == b.start_frame && a.start_value == b.start_value && a.start_slope == b.start_slope;
+}
+
+/* Declined by this number, with the player as it was: before the drag it has no padding. */
+static bool declined(menu_played answer, menu_player player, uint8_t number) {
+    return answer.refusal == number && memcmp(&answer.player, &player, offsetof(menu_player, drag)) == 0 &&
+           same_drag(answer.player.drag, player.drag);
+}
+
+/* A key that is dragged three times, dropped and undone, then dragged and abandoned; and what is declined while a drag is
+ * open and while none is. */
+static void dragging(menu_player player) {
+    static const menu_drag_state closed = {0};
+    CHECK(same_drag(player.drag, closed));
+    CHECK(declined(menu_drag(player, sheet, sheet_len, LENT_KEYS, 6, 20), player, MENU_DRAG));
+    CHECK(declined(menu_drop_drag(player, sheet, sheet_len, LENT_KEYS), player, MENU_DRAG));
+    CHECK(declined(menu_abandon_drag(player, sheet, sheet_len, LENT_KEYS), player, MENU_DRAG));
+    CHECK(declined(menu_open_drag(player, sheet, sheet_len, LENT_KEYS, TRACK, 2), player, MENU_NO_SUCH));
+
+    menu_played sloped = menu_slope_edit(player, sheet, sheet_len, LENT_KEYS, TRACK, KEY, 0.5f);
+    menu_played opened = menu_open_drag(sloped.player, sheet, sheet_len, LENT_KEYS, TRACK, KEY);
+    menu_drag_state start = {true, false, TRACK, KEY, 8, 16, 0.5f};
+    player = opened.player;
+    CHECK(opened.refusal == MENU_OK && same_drag(player.drag, start));
+    CHECK(declined(menu_open_drag(player, sheet, sheet_len, LENT_KEYS, TRACK, KEY), player, MENU_DRAG));
+    CHECK(declined(menu_key_edit(player, sheet, sheet_len, LENT_KEYS, TRACK, KEY, 6, 20), player, MENU_DRAG));
+    CHECK(declined(menu_slope_edit(player, sheet, sheet_len, LENT_KEYS, TRACK, KEY, 1), player, MENU_DRAG));
+    CHECK(declined(menu_undo(player, sheet, sheet_len, LENT_KEYS), player, MENU_DRAG));
+    CHECK(declined(menu_redo(player, sheet, sheet_len, LENT_KEYS), player, MENU_DRAG));
+    CHECK(declined(menu_drag(player, sheet, sheet_len, LENT_KEYS, NAN, 0), player, MENU_NOT_FINITE));
+
+    menu_played dragged = opened;
+    for (int n = 1; n <= 3; n++) {
+        dragged = menu_drag(dragged.player, sheet, sheet_len, LENT_KEYS, 4, (float)(10 * n));
+        CHECK(dragged.refusal == MENU_OK && dragged.player.drag.moved && dragged.player.reach == 1);
+        CHECK(frames[PLACE] == 4 && values[PLACE] == 10 * n && slopes[PLACE] == 0.5f);
+        CHECK(menu_read_pane(dragged.player, LENT, 1, 0).number == 10 * n);
+    }
+    menu_played dropped = menu_drop_drag(dragged.player, sheet, sheet_len, LENT_KEYS);
+    CHECK(dropped.refusal == MENU_OK && same_drag(dropped.player.drag, closed) && values[PLACE] == 30);
+    CHECK(dropped.player.reach == 2 && dropped.player.accepted == 2 && dropped.player.standing == 2);
+    const menu_journal *j = &dropped.player.journal;
+    CHECK(j->track[1] == TRACK && j->key[1] == KEY && j->before_slope[1] == 0.5f && j->after_slope[1] == 0.5f);
+    CHECK(j->before_frame[1] == 8 && j->before_value[1] == 16 && j->after_frame[1] == 4 && j->after_value[1] == 30);
+
+    menu_played undone = menu_undo(dropped.player, sheet, sheet_len, LENT_KEYS);
+    CHECK(undone.refusal == MENU_OK && frames[PLACE] == 8 && values[PLACE] == 16 && slopes[PLACE] == 0.5f);
+    opened = menu_open_drag(undone.player, sheet, sheet_len, LENT_KEYS, TRACK, KEY);
+    dragged = menu_drag(opened.player, sheet, sheet_len, LENT_KEYS, 6, 20);
+    CHECK(dragged.refusal == MENU_OK && frames[PLACE] == 6 && values[PLACE] == 20);
+    menu_played abandoned = menu_abandon_drag(dragged.player, sheet, sheet_len, LENT_KEYS);
+    CHECK(abandoned.refusal == MENU_OK && same_drag(abandoned.player.drag, closed));
+    CHECK(frames[PLACE] == 8 && values[PLACE] == 16 && slopes[PLACE] == 0.5f);
+    CHECK(abandoned.player.reach == 1 && abandoned.player.redo == 1 && abandoned.player.accepted == 2);
+    undone = menu_undo(abandoned.player, sheet, sheet_len, LENT_KEYS);
+    CHECK(undone.refusal == MENU_OK && slopes[PLACE] == 0);
 }
 
 /* The sheet with an edit, loaded again into arrays of its own; and with the edit undone. */
@@ -199,6 +272,7 @@ int main(int count, char **arguments) {
     menu_player player = playing();
     readings(player);
     editing(player);
+    dragging(player);
     saving(player);
     shapes();
     return failed;

@@ -2,7 +2,7 @@
 //! whether a call is made on them. It is what a caller of the interface holds,
 //! and so has the journal that the plain machine does without.
 
-use super::player::{Entry, Player};
+use super::player::{Drag, Entry, Player};
 use super::readings::{self, LentBook, refused};
 use super::reference::Reference;
 use super::{Answer, Call, Request, Told, buffer_length, lent_length, table};
@@ -113,7 +113,7 @@ impl Held {
     }
 
     /// Rows 1 to 5, "each only where the call takes that thing", but for what
-    /// row 5 asks of an undo and a redo.
+    /// row 5 asks of the entry of an undo and a redo.
     fn rows_1_to_5(&self, call: &Call) -> u8 {
         if self.sheet_damaged {
             return 1;
@@ -130,6 +130,9 @@ impl Held {
         if table::row_5(&self.sheet, &self.player) {
             return 5;
         }
+        if call.takes_keys() && table::row_5_start(&self.sheet, &self.keys, &self.player.drag) {
+            return 5;
+        }
         0
     }
 
@@ -143,13 +146,18 @@ impl Held {
                 track,
                 key,
                 request,
-            } => {
-                let (sheet, reference) = (&self.sheet, &mut self.reference);
-                let asked = (track, key, request);
-                table::edit_rows(sheet, reference, &self.keys, view.selection, asked)
-            }
+            } => match self.opening_rows(track, key) {
+                0 => self.request_rows(track, key, request),
+                refusal => refusal,
+            },
             Call::Undo => self.undo_rows(),
             Call::Redo => self.redo_rows(),
+            Call::OpenDrag { track, key } => self.opening_rows(track, key),
+            Call::Drag { frame, value } => match table::drag_rows(self.player.drag.open) {
+                0 => self.drag_request_rows(frame, value),
+                refusal => refusal,
+            },
+            Call::DropDrag | Call::AbandonDrag => table::drag_rows(self.player.drag.open),
             Call::Save { short } => table::save_rows(&self.sheet, short),
             _ => return readings::answer(&self.sheet, &self.book, &self.reference, view, call),
         };
@@ -181,13 +189,31 @@ impl Held {
             } => self.edit(track, key, request),
             Call::Undo => {
                 let entry = self.player.undo_entry();
-                self.put_back(entry, entry.before);
+                self.put_back(entry.track, entry.key, entry.before);
                 self.player.undid();
             }
             Call::Redo => {
                 let entry = self.player.redo_entry();
-                self.put_back(entry, entry.after);
+                self.put_back(entry.track, entry.key, entry.after);
                 self.player.redid();
+            }
+            Call::OpenDrag { track, key } => {
+                let now = self.numbers(track, key);
+                self.player.opened(track, key, now);
+            }
+            Call::Drag { frame, value } => {
+                let Drag { track, key, .. } = self.player.drag;
+                self.request(track, key, Request::Key { frame, value });
+                self.player.drag.moved = true;
+            }
+            Call::DropDrag => {
+                let Drag { track, key, .. } = self.player.drag;
+                let now = self.numbers(track, key);
+                self.player.dropped(now);
+            }
+            Call::AbandonDrag => {
+                let drag = std::mem::take(&mut self.player.drag);
+                self.put_back(drag.track, drag.key, drag.start);
             }
             Call::Save { .. } => return Told::Saved(save::written(&self.sheet, &self.keys)),
             _ => {}
@@ -195,21 +221,46 @@ impl Held {
         Told::Done
     }
 
-    /// Row 5 comes first, and only "with an entry to take".
+    fn opening_rows(&self, track: u16, key: u16) -> u8 {
+        let Player {
+            selection, drag, ..
+        } = &self.player;
+        table::opening_rows(&self.sheet, *selection, drag.open, track, key)
+    }
+
+    /// Of a key that there is.
+    fn request_rows(&mut self, track: u16, key: u16, request: Request) -> u8 {
+        let (sheet, reference) = (&self.sheet, &mut self.reference);
+        let animation = table::animation(sheet, track);
+        let asked = (track, key, request);
+        table::request_rows(sheet, reference, &self.keys, animation, asked)
+    }
+
+    fn drag_request_rows(&mut self, frame: f32, value: f32) -> u8 {
+        let Drag { track, key, .. } = self.player.drag;
+        self.request_rows(track, key, Request::Key { frame, value })
+    }
+
+    /// Row 5 comes first, but is asked only "with an entry to take", and "while a drag
+    /// is open, row 5 asks nothing of the entry".
     fn undo_rows(&self) -> u8 {
-        if self.player.reach == 0 {
-            return 11;
+        match table::take_rows(self.player.drag.open, self.player.reach) {
+            0 => {
+                let entry = self.player.undo_entry();
+                self.return_row(entry, entry.after, entry.before)
+            }
+            refusal => refusal,
         }
-        let entry = self.player.undo_entry();
-        self.return_row(entry, entry.after, entry.before)
     }
 
     fn redo_rows(&self) -> u8 {
-        if self.player.redo == 0 {
-            return 11;
+        match table::take_rows(self.player.drag.open, self.player.redo) {
+            0 => {
+                let entry = self.player.redo_entry();
+                self.return_row(entry, entry.before, entry.after)
+            }
+            refusal => refusal,
         }
-        let entry = self.player.redo_entry();
-        self.return_row(entry, entry.before, entry.after)
     }
 
     fn return_row(&self, entry: Entry, now: [u32; 3], back: [u32; 3]) -> u8 {
@@ -221,27 +272,33 @@ impl Held {
     }
 
     fn edit(&mut self, track: u16, key: u16, request: Request) {
-        let place = table::place(&self.sheet, track, key);
-        let before = self.numbers(place);
-        let animation = self.player.selection;
-        self.reference.edit(animation, track, key, request);
-        self.reference.take(usize::from(track), &mut self.keys);
+        let before = self.numbers(track, key);
+        self.request(track, key, request);
         self.player.edited(Entry {
             track,
             key,
             before,
-            after: self.numbers(place),
+            after: self.numbers(track, key),
         });
     }
 
+    /// Makes a request in the track's own animation, which for an edit is the active
+    /// one.
+    fn request(&mut self, track: u16, key: u16, request: Request) {
+        let animation = table::animation(&self.sheet, track);
+        self.reference.edit(animation, track, key, request);
+        self.reference.take(usize::from(track), &mut self.keys);
+    }
+
     /// A key's frame, value and slope, as bits.
-    fn numbers(&self, place: usize) -> [u32; 3] {
+    fn numbers(&self, track: u16, key: u16) -> [u32; 3] {
+        let place = table::place(&self.sheet, track, key);
         self.keys.each_ref().map(|array| array[place].to_bits())
     }
 
-    fn put_back(&mut self, entry: Entry, numbers: [u32; 3]) {
-        let place = table::place(&self.sheet, entry.track, entry.key);
+    fn put_back(&mut self, track: u16, key: u16, numbers: [u32; 3]) {
+        let place = table::place(&self.sheet, track, key);
         (0..3).for_each(|i| self.keys[i][place] = f32::from_bits(numbers[i]));
-        self.reference.put(usize::from(entry.track), &self.keys);
+        self.reference.put(usize::from(track), &self.keys);
     }
 }

@@ -1,9 +1,10 @@
 //! Lists of calls (document 01, "Playing and editing" and "What a call
-//! declines"). What a call means is the published text's (`reference`); the
+//! declines", with the calls that document 02 adds). What a call means is the published text's (`reference`); the
 //! plain machine (`machine`) and the player with its lent keys (`held`) are
 //! written from document 01 and decline by its table (`table`).
 
 pub mod alone;
+pub mod drags;
 pub mod ends;
 pub mod held;
 pub mod machine;
@@ -59,6 +60,16 @@ pub enum Call {
     },
     Undo,
     Redo,
+    OpenDrag {
+        track: u16,
+        key: u16,
+    },
+    Drag {
+        frame: f32,
+        value: f32,
+    },
+    DropDrag,
+    AbandonDrag,
     ReadPane {
         pane: u16,
         channel: u16,
@@ -225,23 +236,39 @@ impl Call {
             Call::Cascade { .. } => 13,
             Call::NextName(_) => 14,
             Call::Save { .. } => 15,
+            Call::OpenDrag { .. } => 16,
+            Call::Drag { .. } => 17,
+            Call::DropDrag => 18,
+            Call::AbandonDrag => 19,
         }
     }
 
     /// Whether the call takes the keys: all but play, pose, tick and the name.
     pub fn takes_keys(&self) -> bool {
-        !matches!(
+        !self.shows() && !matches!(self, Call::NextName(_))
+    }
+
+    /// Whether the call may move keys, journal, counts or drag.
+    pub fn edits(&self) -> bool {
+        matches!(
             self,
-            Call::Play(_) | Call::Pose(..) | Call::Tick { .. } | Call::NextName(_)
+            Call::Edit { .. }
+                | Call::Undo
+                | Call::Redo
+                | Call::OpenDrag { .. }
+                | Call::Drag { .. }
+                | Call::DropDrag
+                | Call::AbandonDrag
         )
+    }
+
+    /// Whether the call may move the view.
+    pub fn shows(&self) -> bool {
+        matches!(self, Call::Play(_) | Call::Pose(..) | Call::Tick { .. })
     }
 
     /// Whether the call is a reading, which takes the book too.
     pub fn takes_book(&self) -> bool {
-        let without = matches!(
-            self,
-            Call::Edit { .. } | Call::Undo | Call::Redo | Call::Save { .. }
-        );
-        self.takes_keys() && !without
+        self.takes_keys() && !self.edits() && !matches!(self, Call::Save { .. })
     }
 }

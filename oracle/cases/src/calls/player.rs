@@ -1,5 +1,5 @@
-//! The player that a caller holds: its view, its counts and its journal, each
-//! number as the interface has it. Row n % 128 of the journal belongs to
+//! The player that a caller holds: its view, its counts, its journal and its drag,
+//! each number as the interface has it. Row n % 128 of the journal belongs to
 //! standing edit number n.
 
 use super::{NONE, View};
@@ -22,6 +22,7 @@ pub struct Player {
     pub redone: u64,
     pub standing: u64,
     pub journal: Vec<Entry>,
+    pub drag: Drag,
 }
 
 /// An edit's key, and its frame, value and slope before and after it.
@@ -31,6 +32,17 @@ pub struct Entry {
     pub key: u16,
     pub before: [u32; 3],
     pub after: [u32; 3],
+}
+
+/// A drag's key, and its frame, value and slope at opening; `moved` once a drag was
+/// accepted. Closed, all is 0.
+#[derive(Clone, Copy, Debug, Default, PartialEq)]
+pub struct Drag {
+    pub open: bool,
+    pub moved: bool,
+    pub track: u16,
+    pub key: u16,
+    pub start: [u32; 3],
 }
 
 impl Player {
@@ -47,6 +59,7 @@ impl Player {
             redone: 0,
             standing: 0,
             journal: vec![Entry::default(); ROWS],
+            drag: Drag::default(),
         }
     }
 
@@ -87,6 +100,31 @@ impl Player {
         self.redo = 0;
         self.accepted += 1;
         self.standing += 1;
+    }
+
+    /// Opens a drag of a key, which is these numbers now.
+    pub fn opened(&mut self, track: u16, key: u16, start: [u32; 3]) {
+        self.drag = Drag {
+            open: true,
+            moved: false,
+            track,
+            key,
+            start,
+        };
+    }
+
+    /// Closes the drag. Where one was accepted it is an edit, from the key as it was
+    /// at opening to the key as it is `now`.
+    pub fn dropped(&mut self, now: [u32; 3]) {
+        let drag = std::mem::take(&mut self.drag);
+        if drag.moved {
+            self.edited(Entry {
+                track: drag.track,
+                key: drag.key,
+                before: drag.start,
+                after: now,
+            });
+        }
     }
 
     pub fn undid(&mut self) {

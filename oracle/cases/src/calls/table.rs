@@ -1,8 +1,8 @@
-//! Document 01, "What a call declines", and row 14 of document 02: each row that a
-//! list of calls can meet, in plain words and in the order in which they decline:
-//! 1 to 5, 14, 6 to 13. A row answers whether it declines.
+//! Document 01, "What a call declines", and rows 14 and 15 of document 02: each row
+//! that a list of calls can meet, in plain words and in the order in which they
+//! decline: 1 to 5, 14, 6, 15, 7 to 13. A row answers whether it declines.
 
-use super::player::{Entry, Player, ROWS};
+use super::player::{Drag, Entry, Player, ROWS};
 use super::reference::Reference;
 use super::{Call, NONE, Request, View, buffer_length};
 use crate::curves::{CONSTANT, HERMITE};
@@ -31,14 +31,16 @@ pub fn row_4(sheet: &Sheet, lent: &Arrays) -> bool {
 
 /// "selection or a used journal row out of range, frame not finite, reach + redo
 /// over 128, reach over standing, a count or standing over 2^40, or accepted +
-/// redone ≠ undone + standing"
+/// redone ≠ undone + standing", and of document 02 "an open drag whose row is out of
+/// range"
 pub fn row_5(sheet: &Sheet, player: &Player) -> bool {
     let selected = player.selection == NONE || has_animation(sheet, player.selection);
     let frame = f32::from_bits(player.frame).is_finite();
     !(selected
         && frame
         && counts_hold(player)
-        && used_rows(player).all(|row| names_key(sheet, row)))
+        && used_rows(player).all(|row| has_key(sheet, row.track, row.key))
+        && (!player.drag.open || has_key(sheet, player.drag.track, player.drag.key)))
 }
 
 fn has_animation(sheet: &Sheet, animation: u16) -> bool {
@@ -65,10 +67,23 @@ fn used_rows(p: &Player) -> impl Iterator<Item = &Entry> {
     numbers.map(|n| &p.journal[Player::row(n)])
 }
 
-/// The entry's track is below T and its key below that track's key count.
-fn names_key(sheet: &Sheet, entry: &Entry) -> bool {
-    let target = sheet.targets.get(usize::from(entry.track));
-    target.is_some_and(|target| entry.key < target.key_count)
+/// The track is below T and the key below that track's key count.
+fn has_key(sheet: &Sheet, track: u16, key: u16) -> bool {
+    let target = sheet.targets.get(usize::from(track));
+    target.is_some_and(|target| key < target.key_count)
+}
+
+/// "or, where keys are taken, whose starting key, put back, would break the key
+/// rules". The drag's row is in range.
+pub fn row_5_start(sheet: &Sheet, lent: &Arrays, drag: &Drag) -> bool {
+    drag.open && breaks_rules(sheet, lent, place(sheet, drag.track, drag.key), drag.start)
+}
+
+/// Whether the keys with this one in its place would break the key rules.
+fn breaks_rules(sheet: &Sheet, lent: &Arrays, place: usize, key: [u32; 3]) -> bool {
+    let mut returned = lent.clone();
+    (0..3).for_each(|i| returned[i][place] = f32::from_bits(key[i]));
+    row_4(sheet, &returned)
 }
 
 /// "an undo (redo) with an entry to take whose key isn't, bit for bit, as the
@@ -82,12 +97,8 @@ pub fn row_5_return(
     back: [u32; 3],
 ) -> bool {
     let place = place(sheet, entry.track, entry.key);
-    if lent.each_ref().map(|array| array[place].to_bits()) != now {
-        return true;
-    }
-    let mut returned = lent.clone();
-    (0..3).for_each(|i| returned[i][place] = f32::from_bits(back[i]));
-    row_4(sheet, &returned)
+    lent.each_ref().map(|array| array[place].to_bits()) != now
+        || breaks_rules(sheet, lent, place, back)
 }
 
 /// Where a track's key is among all keys.
@@ -135,27 +146,53 @@ pub fn tick_rows(reference: &mut Reference, view: View, dt: f32, fps: f32) -> u8
     }
 }
 
-/// Rows 6 to 10 of an edit: nothing active; no such track or key; an argument
-/// not finite; "clamped frame above the next key's, Constant apart"; "slope
-/// edit, curve not Hermite". The clamp is the published text's: the edit is
-/// made there, looked at, and taken back.
-pub fn edit_rows(
-    sheet: &Sheet,
-    reference: &mut Reference,
-    lent: &Arrays,
-    selection: u16,
-    (track, key, request): (u16, u16, Request),
-) -> u8 {
+/// Rows 6, 15 and 7 of an edit or an opening: "nothing active"; "another edit or a
+/// second opening while a drag is open"; "track not in the active animation, or no
+/// such key".
+pub fn opening_rows(sheet: &Sheet, selection: u16, open: bool, track: u16, key: u16) -> u8 {
     if selection == NONE {
         return 6;
     }
-    let Some(target) = sheet.targets.get(usize::from(track)) else {
-        return 7;
-    };
-    let animation = sheet.contents[usize::from(target.content)].animation;
-    if u16::from(animation) != selection || key >= target.key_count {
-        return 7;
+    if open {
+        return 15;
     }
+    let own = has_key(sheet, track, key) && animation(sheet, track) == selection;
+    if own { 0 } else { 7 }
+}
+
+/// The animation of a track that there is.
+pub fn animation(sheet: &Sheet, track: u16) -> u16 {
+    let target = &sheet.targets[usize::from(track)];
+    u16::from(sheet.contents[usize::from(target.content)].animation)
+}
+
+/// Row 15 of drag, drop and abandon: "while none is".
+pub fn drag_rows(open: bool) -> u8 {
+    if open { 0 } else { 15 }
+}
+
+/// Rows 15 and 11 of an undo or a redo: "while a drag is open"; "undo with reach 0;
+/// redo with an empty redo list".
+pub fn take_rows(open: bool, entries: u64) -> u8 {
+    match (open, entries) {
+        (true, _) => 15,
+        (false, 0) => 11,
+        (false, _) => 0,
+    }
+}
+
+/// Rows 8 to 10 of an edit or a drag of a key that there is: an argument not finite;
+/// "clamped frame above the next key's, Constant apart"; "slope edit, curve not
+/// Hermite". The clamp is the published text's: the edit is made there, looked at,
+/// and taken back.
+pub fn request_rows(
+    sheet: &Sheet,
+    reference: &mut Reference,
+    lent: &Arrays,
+    animation: u16,
+    (track, key, request): (u16, u16, Request),
+) -> u8 {
+    let target = &sheet.targets[usize::from(track)];
     match request {
         Request::Key { frame, value } => {
             if !(frame.is_finite() && value.is_finite()) {
@@ -164,7 +201,7 @@ pub fn edit_rows(
             if target.curve == CONSTANT || key + 1 == target.key_count {
                 return 0;
             }
-            reference.edit(selection, track, key, request);
+            reference.edit(animation, track, key, request);
             let clamped = reference.key(usize::from(track), usize::from(key))[0];
             reference.put(usize::from(track), lent);
             let next = lent[0][place(sheet, track, key) + 1];

@@ -105,6 +105,19 @@ pub fn pairs() -> Vec<(Sheet, Book)> {
     sheets.map(|sheet| (sheet, book.clone())).into()
 }
 
+/// The calls before the views are set: none, and a drag that stays open.
+pub fn starts() -> [Vec<Call>; 2] {
+    let drag = vec![
+        Call::Play(0),
+        Call::OpenDrag { track: 0, key: 1 },
+        Call::Drag {
+            frame: 5.5,
+            value: 2.0,
+        },
+    ];
+    [Vec::new(), drag]
+}
+
 /// Nothing selected or each animation, both flags, each frame.
 pub fn views(sheet: &Sheet) -> Vec<View> {
     let animations = 0..sheet.animations.len() as u16;

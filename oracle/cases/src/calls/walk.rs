@@ -83,7 +83,7 @@ impl Walk {
     }
 
     /// Whether the keys come from the loaded ones by the list's calls alone, and no
-    /// edit of them stands.
+    /// edit of them stands or is made by a drag.
     pub fn is_unedited(&self) -> bool {
         let own = self.back.iter().all(Spoil::is_plain);
         own && self.machine.as_ref().is_some_and(Machine::is_unedited)
@@ -159,15 +159,13 @@ impl Walk {
         let Some(machine) = &mut self.machine else {
             return;
         };
-        let moves_keys = matches!(call, Call::Edit { .. } | Call::Undo | Call::Redo);
-        let moves_view = matches!(call, Call::Play(_) | Call::Pose(..) | Call::Tick { .. });
         if !self.back.iter().all(Spoil::is_plain) {
             // A spoiled player or key array is not the machine's: a declined
             // call leaves both, and an accepted play, pose or tick moves both.
-            if answer.refusal == 0 && moves_keys {
+            if answer.refusal == 0 && call.edits() {
                 self.machine = None;
                 self.left = self.left.min(AFTER);
-            } else if answer.refusal == 0 && moves_view {
+            } else if answer.refusal == 0 && call.shows() {
                 assert_eq!(machine.step(call, &self.held.book), *answer, "{call:?}");
             }
             return;
@@ -177,7 +175,7 @@ impl Walk {
         }
         assert_eq!(machine.step(call, &self.held.book), *answer, "{call:?}");
         assert!(machine.is_carried_by(&self.held.player), "{call:?}");
-        if moves_keys {
+        if call.edits() {
             assert_eq!(machine.keys(), self.held.key_bits(), "{call:?}");
         }
     }

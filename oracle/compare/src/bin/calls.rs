@@ -2,17 +2,19 @@
 //! the published text says, beside the proved player: every answer and output,
 //! all keys and the whole player after each. A tick that ends with a next name
 //! must be one of the Rust's that returned that name. What a save wrote must be
-//! the loaded sheet where no edit stands, load as the keys held, and be saved again
-//! as it is. First every short list over a few calls; then animations that end,
-//! with a next name of every length; then plays, poses, ticks, readings and saves
-//! in every kind of view; then every field, journal row and key spoiled alone; then
-//! random lists, until COUNT of their calls were compared. In each of these some
-//! tick must end with a next name and some without one, and in the short and the
-//! random lists some save must come with all edits undone and some give another
-//! sheet, for which a COUNT below 20,000 may be too small. `calls 0 SEED` runs the
-//! one random list of that seed, and tells its steps.
+//! the loaded sheet where no edit stands or is made by a drag, load as the keys held,
+//! and be saved again as it is. First every short list over a few calls; then every
+//! short list over a drag; then animations that end, with a next name of every length;
+//! then plays, poses, ticks, readings and saves in every kind of view, while no drag
+//! is open and while one is; then every field, journal row and key spoiled alone; then
+//! random lists, until COUNT of their calls were compared. In all but the second of
+//! these some tick must end with a next name and some without one; in the short and
+//! the random lists some save must come with all edits undone and some give another
+//! sheet; and in those with drags each state of one must be met by each call that
+//! can. A COUNT below 20,000 may be too small for that. `calls 0 SEED` runs the one
+//! random list of that seed, and tells its steps.
 
-use cases::calls::{ends, short};
+use cases::calls::{drags, ends, short};
 use cases::random::Random;
 use compare::arguments::Arguments;
 use compare::lists::{Counts, Difference};
@@ -32,6 +34,14 @@ fn main() {
     require_saves(&counts, &what);
 
     let mut counts = Counts::default();
+    let found = counts.each_short_drag();
+    let (lists, cases) = (drags::COUNT, drags::cases().len());
+    let what = format!("{lists} short lists over a drag in each of {cases} cases");
+    report(&counts, &what, found);
+    require_saves(&counts, &what);
+    require_drags(&counts, &what);
+
+    let mut counts = Counts::default();
     let found = counts.each_end();
     report_part(&counts, "animations that end", found);
 
@@ -42,6 +52,7 @@ fn main() {
     let mut counts = Counts::default();
     let found = counts.each_spoil_alone();
     report_part(&counts, "each thing spoiled alone", found);
+    require_drags(&counts, "each thing spoiled alone");
 
     let mut counts = Counts::default();
     let found = random_lists(&mut counts, count, seed);
@@ -49,6 +60,7 @@ fn main() {
     let what = format!("random lists, seed {seed}");
     report_part(&counts, &what, found);
     require_saves(&counts, &what);
+    require_drags(&counts, &what);
 }
 
 /// Random lists until so many calls were made; of those that differ, the one
@@ -95,6 +107,14 @@ fn report_part(counts: &Counts, what: &str, differs: Option<String>) {
 fn require_saves(counts: &Counts, what: &str) {
     if !counts.saved_both_ways() {
         println!("{what}: no save came with all edits undone, or none gave another sheet");
+        std::process::exit(1);
+    }
+}
+
+/// A part with drags fails too where a state of one was not met by a call that can.
+fn require_drags(counts: &Counts, what: &str) {
+    if !counts.dragged_all_ways() {
+        println!("{what}: some call never met a drag in some state");
         std::process::exit(1);
     }
 }

@@ -2,13 +2,15 @@
 //! anything.
 
 use cases::bits::bits_of;
-use cases::calls::player::{Entry, Player};
+use cases::calls::player::{Drag, Entry, Player};
 use cases::calls::spoil::{
-    ACCEPTED, FRAME, KEY, PLAYING, PREVIEW, REACH, REDO, REDONE, SELECTION, STANDING, TRACK, UNDONE,
+    ACCEPTED, DRAG_KEY, DRAG_TRACK, FRAME, KEY, MOVED, OPEN, PLAYING, PREVIEW, REACH, REDO, REDONE,
+    SELECTION, STANDING, TRACK, UNDONE,
 };
 use dovebolt::raw;
 
-/// Whether every field is the plain player's, the journal's rows with them.
+/// Whether every field is the plain player's, the journal's rows and the drag with
+/// them.
 pub fn same(ours: &raw::Player, plain: &Player) -> bool {
     let counts = |p: &raw::Player| [p.reach, p.redo, p.accepted, p.undone, p.redone, p.standing];
     let p = plain;
@@ -20,6 +22,18 @@ pub fn same(ours: &raw::Player, plain: &Player) -> bool {
     ) == (p.selection, p.playing, p.preview, p.frame)
         && counts(ours) == [p.reach, p.redo, p.accepted, p.undone, p.redone, p.standing]
         && (0..raw::ROWS).all(|row| entry(&ours.journal, row) == p.journal[row])
+        && drag(&ours.drag) == p.drag
+}
+
+pub fn drag(drag: &raw::Drag) -> Drag {
+    let start = [drag.start_frame, drag.start_value, drag.start_slope];
+    Drag {
+        open: drag.open,
+        moved: drag.moved,
+        track: drag.track,
+        key: drag.key,
+        start: start.map(bits_of),
+    }
 }
 
 fn entry(j: &raw::Journal, row: usize) -> Entry {
@@ -60,6 +74,13 @@ pub fn set(p: &mut raw::Player, field: u8, row: usize, value: u64) {
         15 => j.after_frame[row] = number,
         16 => j.after_value[row] = number,
         17 => j.after_slope[row] = number,
+        OPEN => p.drag.open = value == 1,
+        MOVED => p.drag.moved = value == 1,
+        DRAG_TRACK => p.drag.track = value as u16,
+        DRAG_KEY => p.drag.key = value as u16,
+        22 => p.drag.start_frame = number,
+        23 => p.drag.start_value = number,
+        24 => p.drag.start_slope = number,
         _ => panic!("no field {field}"),
     }
 }

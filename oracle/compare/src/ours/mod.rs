@@ -7,6 +7,7 @@ mod saving;
 
 use cases::bits::bits_of;
 use cases::calls::held::Held;
+use cases::calls::player::Drag;
 use cases::calls::spoil::Spoil;
 use cases::calls::{Answer, Call, FILL_BITS, FILL_BYTE, NONE, One, Request, Tick, Told};
 use dovebolt::{Keys, Reading, Refusal, ResolvedPane, Srt, raw};
@@ -26,6 +27,10 @@ impl Ours {
 
     pub fn player(&self) -> &raw::Player {
         self.player.as_raw()
+    }
+
+    pub fn drag(&self) -> Drag {
+        fields::drag(&self.player.as_raw().drag)
     }
 
     pub fn keys(&self) -> &Keys {
@@ -107,6 +112,10 @@ impl Ours {
             } => done(player.slope_edit(s, keys, track, key, slope)),
             Call::Undo => done(player.undo(s, keys)),
             Call::Redo => done(player.redo(s, keys)),
+            Call::OpenDrag { track, key } => done(player.open_drag(s, keys, track, key)),
+            Call::Drag { frame, value } => done(player.drag(s, keys, frame, value)),
+            Call::DropDrag => done(player.drop_drag(s, keys)),
+            Call::AbandonDrag => done(player.abandon_drag(s, keys)),
             Call::NextName(animation) => next_name(held, animation),
             Call::Save { short } => self.save(held, short),
             _ => self.read(call, held, s, &held.book.bytes),

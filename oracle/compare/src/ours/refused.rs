@@ -12,7 +12,8 @@ use dovebolt::{Keys, raw};
 pub fn keeps_all(call: &Call, held: &Held, player: raw::Player, keys: &mut Keys) {
     let kept = match call {
         Call::Play(_) | Call::Pose(..) | Call::Tick { .. } => view_call(call, held, player),
-        Call::Edit { .. } | Call::Undo | Call::Redo => key_call(call, held, player, keys),
+        Call::OpenDrag { .. } | Call::DropDrag => drag_call(call, held, player, keys),
+        _ if call.edits() => key_call(call, held, player, keys),
         _ => zeros(call, held, player, keys),
     };
     assert!(
@@ -57,7 +58,17 @@ fn bytes_of(p: &raw::Player) -> Vec<u64> {
         .into_iter()
         .flatten()
         .map(|&x| u64::from(bits_of(x)));
-    head.into_iter().chain(shorts).chain(numbers).collect()
+    let drag = [
+        u64::from(p.drag.open),
+        u64::from(p.drag.moved),
+        u64::from(p.drag.track),
+        u64::from(p.drag.key),
+        u64::from(bits_of(p.drag.start_frame)),
+        u64::from(bits_of(p.drag.start_value)),
+        u64::from(bits_of(p.drag.start_slope)),
+    ];
+    let journal = shorts.chain(numbers);
+    head.into_iter().chain(journal).chain(drag).collect()
 }
 
 fn view_call(call: &Call, held: &Held, player: raw::Player) -> bool {
@@ -103,6 +114,31 @@ fn key_call(call: &Call, held: &Held, player: raw::Player, keys: &mut Keys) -> b
             ),
             Call::Undo => raw::menu_undo(player, at, len, f.0, f.1, v.0, v.1, m.0, m.1),
             Call::Redo => raw::menu_redo(player, at, len, f.0, f.1, v.0, v.1, m.0, m.1),
+            Call::Drag { frame, value } => {
+                raw::menu_drag(player, at, len, f.0, f.1, v.0, v.1, m.0, m.1, frame, value)
+            }
+            Call::AbandonDrag => {
+                raw::menu_abandon_drag(player, at, len, f.0, f.1, v.0, v.1, m.0, m.1)
+            }
+            _ => return false,
+        }
+    };
+    is_kept(played.refusal, &played.player, &player)
+}
+
+/// The calls of a drag that leave the keys.
+fn drag_call(call: &Call, held: &Held, player: raw::Player, keys: &Keys) -> bool {
+    let s = &held.sheet_bytes;
+    let (at, len) = (s.as_ptr(), s.len());
+    let [f, v, m] =
+        [&keys.frames, &keys.values, &keys.slopes].map(|array| (array.as_ptr(), array.len()));
+    // SAFETY: each pointer has the length of its slice.
+    let played = unsafe {
+        match *call {
+            Call::OpenDrag { track, key } => {
+                raw::menu_open_drag(player, at, len, f.0, f.1, v.0, v.1, m.0, m.1, track, key)
+            }
+            Call::DropDrag => raw::menu_drop_drag(player, at, len, f.0, f.1, v.0, v.1, m.0, m.1),
             _ => return false,
         }
     };

@@ -1,5 +1,5 @@
 -- `take` gives `takeOf`, refusal, player and all three key arrays: the entry's key is left as the entry leaves it.
-use Rattle.menu.proofs.Undoes.{take-refused, take-can, take-taken, take-made}
+use Rattle.menu.proofs.Undoes.{take-refused, take-can, take-allowed, take-made}
 use borrow.Author.Needs.{needs}
 use Rattle.menu.proofs.undoing.take.Statement.{statement}
 use Rattle.menu.proofs.undoing.take.Tie as tie
@@ -29,7 +29,7 @@ spot-of-requires : tie.Need-spot-of-requires
 spot-of-requires c κs =
     let at-if1 = c .before .before in
     let at-take-refusal = at-if1 .before in
-    let k = take-taken _ _ _ _ _ _ _ (at-take-refusal .take-refusal .ensures) (at-if1 .if1 .left) in rw (c .before .entry .ensures) (k .sheet, k .on)
+    let k = take-allowed _ _ _ _ _ _ _ (at-take-refusal .take-refusal .ensures) (at-if1 .if1 .left) in rw (c .before .entry .ensures) (k .sheet, k .on)
 
 put-key-requires : tie.Need-put-key-requires
 put-key-requires c κs =
@@ -37,7 +37,7 @@ put-key-requires c κs =
     let at-entry = at-spot-of .before .before in
     let at-if1 = at-entry .before in
     let at-take-refusal = at-if1 .before in
-    let k = take-taken _ _ _ _ _ _ _ (at-take-refusal .take-refusal .ensures) (at-if1 .if1 .left) in rw (at-spot-of .spot-of .ensures, at-entry .entry .ensures) (record { frames = k .inside .frames .here; values = k .inside .values; slopes = k .inside .slopes })
+    let k = take-allowed _ _ _ _ _ _ _ (at-take-refusal .take-refusal .ensures) (at-if1 .if1 .left) in rw (at-spot-of .spot-of .ensures, at-entry .entry .ensures) (record { frames = k .inside .frames .here; values = k .inside .values; slopes = k .inside .slopes })
 
 after-take-requires : tie.Need-after-take-requires
 after-take-requires c κs =

@@ -29,13 +29,26 @@ returns-2 c = search (after-state, fits-not, fits-yes)
 
 returns-3 : tie.Need-returns-3
 unfolding takeTable takeRows
-returns-3 c = search (after-state, fits-not, fits-yes, none-left, some-left)
+returns-3 c = search (after-state, fits-not, fits-yes)
 
 returns-4 : tie.Need-returns-4
 unfolding takeTable takeRows
 returns-4 c = search (after-state, fits-not, fits-yes, none-left, some-left)
 
+returns-5 : tie.Need-returns-5
+unfolding takeTable takeRows
+returns-5 c = search (after-state, fits-not, fits-yes, none-left, some-left)
+
 pub take-refusal-spec : {M : Type 1} → statement M
 take-refusal-spec =
     tie.close
-    (tie.spec check-state-requires returns entries-requires entry-requires take-fits-requires returns-2 returns-3 returns-4)
+    (tie.spec
+    check-state-requires
+    returns
+    entries-requires
+    entry-requires
+    take-fits-requires
+    returns-2
+    returns-3
+    returns-4
+    returns-5)

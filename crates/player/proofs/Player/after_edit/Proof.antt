@@ -18,7 +18,7 @@ with-row-requires c κs = search needs
 
 returns : tie.Need-returns
 unfolding editedPlayer
-returns c = rw (c .before .before .before .one-more .ensures, c .with-row .ensures)
+returns c = rw (c .before .before .before .before .one-more .ensures, c .before .with-row .ensures)
 
 pub after-edit-spec : {M : Type 1} → statement M
 after-edit-spec = tie.close (tie.spec one-more-requires add-t4 add-t5 with-row-requires returns)

@@ -39,7 +39,7 @@ pub fn edit(random: &mut Random, held: &Held) -> Call {
 
 /// A track of the active animation that has keys; for a slope most often one of
 /// a Hermite curve.
-fn track(random: &mut Random, held: &Held, slope: bool) -> Option<u16> {
+pub fn track(random: &mut Random, held: &Held, slope: bool) -> Option<u16> {
     let any_curve = !slope || random.once_in(8);
     let targets = held.sheet.targets.iter().enumerate();
     let own: Vec<u16> = targets
@@ -53,14 +53,20 @@ fn track(random: &mut Random, held: &Held, slope: bool) -> Option<u16> {
     (!own.is_empty()).then(|| random.pick(&own))
 }
 
-/// Any track and key, and arguments that may not be finite.
-fn wrong_edit(random: &mut Random, held: &Held) -> Call {
+/// Any track and key, of which there may be none.
+pub fn any_key(random: &mut Random, held: &Held) -> (u16, u16) {
     let targets = held.sheet.targets.len();
     let track = random.below(targets + 2) as u16;
     let target = held.sheet.targets.get(usize::from(track));
     let keys = target.map_or(0, |target| usize::from(target.key_count));
     let inside = random.below(keys + 1);
     let key = random.pick(&[inside, inside, inside, keys, keys + 1, 65_535]) as u16;
+    (track, key)
+}
+
+/// Any track and key, and arguments that may not be finite.
+fn wrong_edit(random: &mut Random, held: &Held) -> Call {
+    let (track, key) = any_key(random, held);
     let number = not_finite(random);
     let request = match random.below(4) {
         0 => Request::Key {
@@ -81,7 +87,7 @@ fn wrong_edit(random: &mut Random, held: &Held) -> Call {
     }
 }
 
-fn argument(random: &mut Random) -> f32 {
+pub fn argument(random: &mut Random) -> f32 {
     if random.once_in(64) {
         return not_finite(random);
     }
@@ -89,7 +95,7 @@ fn argument(random: &mut Random) -> f32 {
 }
 
 /// A frame near the key, one of its neighbours, or a bound of the clamp.
-fn edit_frame(random: &mut Random, held: &Held, target: &Target, key: usize) -> f32 {
+pub fn edit_frame(random: &mut Random, held: &Held, target: &Target, key: usize) -> f32 {
     if random.once_in(5) {
         return argument(random);
     }
@@ -101,7 +107,7 @@ fn edit_frame(random: &mut Random, held: &Held, target: &Target, key: usize) -> 
     if frame.is_finite() { frame } else { 0.0 }
 }
 
-fn edit_value(random: &mut Random, target: &Target) -> f32 {
+pub fn edit_value(random: &mut Random, target: &Target) -> f32 {
     if target.curve != STEP || random.once_in(3) {
         return argument(random);
     }

@@ -1,5 +1,6 @@
 //! Random calls: most are accepted, and each row of the table declines some.
 
+mod drags;
 mod edits;
 mod reads;
 
@@ -11,6 +12,7 @@ use crate::format::sheet::{Sheet, Target};
 use crate::random::Random;
 use crate::readings::some::{frame as some_frame, vary, vary_textures};
 use crate::sheets::{books, good, names};
+use drags::{close, dragging};
 use edits::edit;
 use reads::{reading, seldom};
 
@@ -21,6 +23,7 @@ pub enum Mode {
     Edits,
     Undos,
     Redos,
+    Drags,
     Ticks,
     Reads,
     Spoiled,
@@ -31,7 +34,10 @@ pub fn mode(random: &mut Random, held: &Held) -> (Mode, usize) {
     let reach = held.player.reach.min(128) as usize;
     let redo = held.player.redo.min(128) as usize;
     let few = 1 + random.below(12);
-    match random.below(18) {
+    if held.player.drag.open && random.once_in(2) {
+        return (Mode::Drags, few);
+    }
+    match random.below(21) {
         0..4 => (Mode::Mixed, few),
         4..7 => (Mode::Edits, random.pick(&[few, 2 * few, 20, 150])),
         7..9 => (Mode::Undos, random.pick(&[few, reach + 2, reach / 2 + 1])),
@@ -39,6 +45,7 @@ pub fn mode(random: &mut Random, held: &Held) -> (Mode, usize) {
         9..11 => (Mode::Redos, random.pick(&[few, redo + 2, redo / 2 + 1])),
         11 => (Mode::Ticks, few),
         12..15 => (Mode::Reads, few),
+        15..18 => (Mode::Drags, random.pick(&[few, 2 * few, 40])),
         _ => (Mode::Spoiled, 2 + random.below(4)),
     }
 }
@@ -102,13 +109,17 @@ fn sized_pair(
 pub fn call(random: &mut Random, held: &Held, mode: Mode) -> Call {
     // Most modes need something selected.
     let idle = held.player.selection == NONE && !random.once_in(8);
+    let open = held.player.drag.open;
     match mode {
         Mode::Mixed => mixed(random, held),
         Mode::Edits | Mode::Ticks | Mode::Reads if idle => select(random, held),
+        // An open drag shuts these out.
+        Mode::Edits | Mode::Undos | Mode::Redos if open && !random.once_in(6) => close(random),
         Mode::Edits => edit(random, held),
         Mode::Undos | Mode::Redos if random.once_in(24) => mixed(random, held),
         Mode::Undos => Call::Undo,
         Mode::Redos => Call::Redo,
+        Mode::Drags => dragging(random, held),
         Mode::Ticks if held.player.playing || random.once_in(2) => tick(random),
         Mode::Ticks => Call::Play(held.player.selection),
         Mode::Reads => reading(random, held),
@@ -117,12 +128,13 @@ pub fn call(random: &mut Random, held: &Held, mode: Mode) -> Call {
 }
 
 fn mixed(random: &mut Random, held: &Held) -> Call {
-    match random.below(16) {
+    match random.below(20) {
         0..2 => select(random, held),
         2..5 => edit(random, held),
         5..7 => Call::Undo,
         7..9 => Call::Redo,
         9..12 => tick(random),
+        12..16 => dragging(random, held),
         _ => reading(random, held),
     }
 }
@@ -133,15 +145,16 @@ pub fn save(random: &mut Random) -> Call {
     Call::Save { short }
 }
 
-/// In a spoiled state undo and redo look closest; a damaged book is for readings
-/// alone.
+/// In a spoiled state undo, redo and the drags look closest; a damaged book is for
+/// readings alone.
 fn spoiled(random: &mut Random, held: &Held) -> Call {
     if held.book.good.is_none() && !random.once_in(4) {
         return reading(random, held);
     }
-    match random.below(4) {
+    match random.below(6) {
         0 => Call::Undo,
         1 => Call::Redo,
+        2 => dragging(random, held),
         _ => mixed(random, held),
     }
 }

@@ -1,6 +1,7 @@
 //! Spoiled states: a field of the player, a key, the length of a key array, the
 //! sheet or the book set to something else, which may break a rule or not.
 
+mod drags;
 pub mod some;
 
 use super::held::Held;
@@ -24,7 +25,7 @@ pub enum Spoil {
 }
 
 /// The player's fields by number. From 12 on the entry's frame, value and slope
-/// before, then after.
+/// before, then after; from 22 on those of a drag's starting key.
 pub const SELECTION: u8 = 0;
 pub const PLAYING: u8 = 1;
 pub const PREVIEW: u8 = 2;
@@ -38,7 +39,12 @@ pub const STANDING: u8 = 9;
 pub const TRACK: u8 = 10;
 pub const KEY: u8 = 11;
 pub const NUMBERS: u8 = 12;
-pub const FIELDS: u8 = 18;
+pub const OPEN: u8 = 18;
+pub const MOVED: u8 = 19;
+pub const DRAG_TRACK: u8 = 20;
+pub const DRAG_KEY: u8 = 21;
+pub const START: u8 = 22;
+pub const FIELDS: u8 = 25;
 
 impl Spoil {
     /// Whether it sets what the plain machine has too: what is selected and
@@ -103,6 +109,12 @@ fn replace(p: &mut Player, field: u8, row: usize, value: u64) -> u64 {
         TRACK => swap_short(&mut entry.track),
         KEY => swap_short(&mut entry.key),
         12..15 => swap_bits(&mut entry.before[usize::from(field - NUMBERS)]),
-        _ => swap_bits(&mut entry.after[usize::from(field - NUMBERS - 3)]),
+        15..18 => swap_bits(&mut entry.after[usize::from(field - NUMBERS - 3)]),
+        OPEN => swap_flag(&mut p.drag.open),
+        MOVED => swap_flag(&mut p.drag.moved),
+        DRAG_TRACK => swap_short(&mut p.drag.track),
+        DRAG_KEY => swap_short(&mut p.drag.key),
+        START..FIELDS => swap_bits(&mut p.drag.start[usize::from(field - START)]),
+        _ => panic!("no field {field}"),
     }
 }

@@ -1,8 +1,9 @@
 //! Random spoils.
 
+use super::drags::drag;
 use super::{
-    ACCEPTED, FIELDS, FRAME, KEY, PLAYING, PREVIEW, REACH, REDONE, SELECTION, STANDING, Spoil,
-    TRACK, UNDONE, replace,
+    ACCEPTED, FRAME, KEY, OPEN, PLAYING, PREVIEW, REACH, REDONE, SELECTION, STANDING, Spoil, TRACK,
+    UNDONE, replace,
 };
 use crate::bits::bits_of;
 use crate::calls::held::Held;
@@ -13,12 +14,15 @@ use crate::format::sheet::Sheet;
 use crate::random::Random;
 use crate::sheets::damage::mutated;
 
-const NAN: u32 = 0x7FC0_0000;
+pub(super) const NAN: u32 = 0x7FC0_0000;
 const MOST: u64 = 1 << 40;
 
 /// Some changes that belong together; most break one rule.
 pub fn any(random: &mut Random, held: &Held) -> Vec<Spoil> {
-    match random.below(16) {
+    if held.player.drag.open && random.once_in(2) {
+        return drag(random, held);
+    }
+    match random.below(17) {
         0 => vec![view_field(random, held)],
         1..4 => vec![count(random, held)],
         4 => counts_that_agree(random, held),
@@ -27,6 +31,7 @@ pub fn any(random: &mut Random, held: &Held) -> Vec<Spoil> {
         12 => neighbour(random, held),
         13 => short(random, held),
         14 => vec![damaged_sheet(random, held)],
+        15 => drag(random, held),
         _ => vec![changed_book(random, held)],
     }
 }
@@ -36,7 +41,7 @@ fn count_of(p: &Player, field: u8) -> u64 {
     replace(&mut p.clone(), field, 0, 0)
 }
 
-fn field(field: u8, value: u64) -> Spoil {
+pub(super) fn field(field: u8, value: u64) -> Spoil {
     Spoil::Field {
         field,
         row: 0,
@@ -123,7 +128,7 @@ fn journal_field(random: &mut Random, held: &Held) -> Spoil {
         first.wrapping_add(within),
     ]);
     let row = Player::row(row);
-    let number = TRACK + random.below(usize::from(FIELDS - TRACK)) as u8;
+    let number = TRACK + random.below(usize::from(OPEN - TRACK)) as u8;
     let value = journal_value(random, held, p.journal[row], number);
     Spoil::Field {
         field: number,
@@ -136,24 +141,26 @@ fn journal_value(random: &mut Random, held: &Held, entry: Entry, number: u8) -> 
     let targets = held.sheet.targets.len();
     match number {
         TRACK => number_around(random, targets),
-        KEY => {
-            let target = held.sheet.targets.get(usize::from(entry.track));
-            let keys = target.map_or(0, |target| usize::from(target.key_count));
-            number_around(random, keys)
-        }
+        KEY => number_around(random, key_count(held, entry.track)),
         12..15 => u64::from(other_bits(random, entry.before[usize::from(number - 12)])),
         _ => u64::from(other_bits(random, entry.after[usize::from(number - 15)])),
     }
 }
 
+/// How many keys a track has, none where there is no such track.
+pub(super) fn key_count(held: &Held, track: u16) -> usize {
+    let target = held.sheet.targets.get(usize::from(track));
+    target.map_or(0, |target| usize::from(target.key_count))
+}
+
 /// A number below n, n itself, or one above it.
-fn number_around(random: &mut Random, n: usize) -> u64 {
+pub(super) fn number_around(random: &mut Random, n: usize) -> u64 {
     let below = random.below(n.max(1));
     random.pick(&[n, n + 1, 65_535, below]) as u64
 }
 
 /// Bits near some others, or ones that a rule names.
-fn other_bits(random: &mut Random, bits: u32) -> u32 {
+pub(super) fn other_bits(random: &mut Random, bits: u32) -> u32 {
     let near = bits_of(f32::from_bits(bits ^ 1));
     let number = random.number().to_bits();
     let whole = (random.below(65_537) as f32).to_bits();
@@ -170,7 +177,7 @@ fn other_bits(random: &mut Random, bits: u32) -> u32 {
 }
 
 /// One number of one key; of the key that undo or redo takes, or of any.
-fn key(random: &mut Random, held: &Held) -> Vec<Spoil> {
+pub(super) fn key(random: &mut Random, held: &Held) -> Vec<Spoil> {
     if held.keys[0].is_empty() {
         return vec![view_field(random, held)];
     }
@@ -192,17 +199,26 @@ fn key(random: &mut Random, held: &Held) -> Vec<Spoil> {
 /// Where the key of a journal's row is, if the row names one.
 fn entry_place(held: &Held, number: u64) -> Option<usize> {
     let entry = held.player.journal[Player::row(number)];
-    let target = held.sheet.targets.get(usize::from(entry.track))?;
-    (entry.key < target.key_count).then(|| table::place(&held.sheet, entry.track, entry.key))
+    key_place(held, entry.track, entry.key)
+}
+
+/// Where a key is, if there is one.
+pub(super) fn key_place(held: &Held, track: u16, key: u16) -> Option<usize> {
+    let found = usize::from(key) < key_count(held, track);
+    found.then(|| table::place(&held.sheet, track, key))
 }
 
 /// The neighbour's frame becomes the key's own: the keys keep their rules, but
 /// what an undo or a redo returns may not.
 fn neighbour(random: &mut Random, held: &Held) -> Vec<Spoil> {
     let number = held.player.standing.wrapping_sub(random.below(2) as u64);
-    let Some(place) = entry_place(held, number) else {
-        return key(random, held);
-    };
+    match entry_place(held, number) {
+        Some(place) => neighbour_of(random, held, place),
+        None => key(random, held),
+    }
+}
+
+pub(super) fn neighbour_of(random: &mut Random, held: &Held, place: usize) -> Vec<Spoil> {
     let index = random.pick(&[place.wrapping_sub(1), place + 1]);
     if index >= held.keys[0].len() {
         return key(random, held);

@@ -1,78 +1,19 @@
 //! Calls as the command line's `replay` takes them, one a line, and their answers
 //! as it writes them. Both are made from the calls and answers here alone.
 
+mod call;
 mod channel;
 mod number;
 
 use super::held::Held;
+use super::player::Drag;
 use super::readings::{material_reading, pane_reading};
-use super::{Answer, Call, NONE, One, Request, Tick, Told};
+use super::{Answer, Call, One, Tick, Told};
 use crate::format::book::Book;
 use crate::readings::whole::{MATERIAL_CHANNELS, PANE_CHANNELS};
-use number::{argument, number};
-
-/// Whether a call may move the player or its keys.
-pub fn moves(call: &Call) -> bool {
-    matches!(
-        call,
-        Call::Play(_)
-            | Call::Pose(..)
-            | Call::Tick { .. }
-            | Call::Edit { .. }
-            | Call::Undo
-            | Call::Redo
-    )
-}
-
-/// A call's line; nothing for one that lends an output of another length, which
-/// no line can say.
-pub fn line(call: &Call) -> Option<String> {
-    Some(match *call {
-        Call::Play(animation) => format!("play {}", selection(animation)),
-        Call::Pose(animation, frame) => {
-            format!("pose {} {}", selection(animation), argument(frame))
-        }
-        Call::Tick { dt, fps } => format!("tick {} {}", argument(dt), argument(fps)),
-        Call::Edit {
-            track,
-            key,
-            request,
-        } => edit(track, key, request),
-        Call::Undo => "undo".to_string(),
-        Call::Redo => "redo".to_string(),
-        Call::ReadPane { pane, channel } => {
-            format!("read pane {pane} {}", channel::of_pane(channel))
-        }
-        Call::ReadMaterial { material, channel } => {
-            format!("read material {material} {}", channel::of_material(channel))
-        }
-        Call::ReadAll { short: 0 } => "read all".to_string(),
-        Call::ResolvePane(pane) => format!("resolve pane {pane}"),
-        Call::ResolveSrt { material, layer } => format!("resolve srt {material} {layer}"),
-        Call::TextureName { material, slot } => format!("name {material} {slot}"),
-        Call::Cascade { short: 0 } => "cascade".to_string(),
-        Call::NextName(animation) => format!("next {animation}"),
-        Call::Save { short: 0 } => "save".to_string(),
-        Call::ReadAll { .. } | Call::Cascade { .. } | Call::Save { .. } => return None,
-    })
-}
-
-fn edit(track: u16, key: u16, request: Request) -> String {
-    match request {
-        Request::Key { frame, value } => {
-            let (frame, value) = (argument(frame), argument(value));
-            format!("key {track} {key} {frame} {value}")
-        }
-        Request::Slope(slope) => format!("slope {track} {key} {}", argument(slope)),
-    }
-}
-
-fn selection(animation: u16) -> String {
-    match animation {
-        NONE => "none".to_string(),
-        number => number.to_string(),
-    }
-}
+pub use call::line;
+use call::selection;
+use number::number;
 
 /// What is written for a call's answer, its last line end included.
 pub fn answer(call: &Call, answer: &Answer, held: &Held) -> Vec<u8> {
@@ -103,10 +44,22 @@ pub fn player(held: &Held) -> Vec<u8> {
         yes(p.preview)
     ));
     text.say(&format!(
-        " reach {} redo {} accepted {} undone {} redone {} standing {}\n",
+        " reach {} redo {} accepted {} undone {} redone {} standing {}",
         p.reach, p.redo, p.accepted, p.undone, p.redone, p.standing
     ));
+    text.say(&format!(" drag {}\n", drag(&p.drag)));
     text.0
+}
+
+/// An open drag's key as it was at opening, and whether a drag was accepted since.
+fn drag(drag: &Drag) -> String {
+    if !drag.open {
+        return "none".to_string();
+    }
+    let [frame, value, slope] = drag.start.map(number);
+    let not = if drag.moved { "" } else { "not " };
+    let Drag { track, key, .. } = drag;
+    format!("{track} {key} from {frame} {value} {slope}, {not}moved")
 }
 
 /// What `keys` answers.
@@ -292,7 +245,7 @@ fn good(held: &Held) -> &Book {
 }
 
 /// The refusals in the command line's words, the first being 1.
-const MEANINGS: [&str; 14] = [
+const MEANINGS: [&str; 15] = [
     "the sheet breaks its layout",
     "the book breaks its layout",
     "a key array is not as long as the sheet has keys",
@@ -307,4 +260,5 @@ const MEANINGS: [&str; 14] = [
     "an angle above 3,600 degrees",
     "an output is not exactly as long as it must be",
     "the buffer is not as long as the sheet",
+    "a drag is open, or none is",
 ];

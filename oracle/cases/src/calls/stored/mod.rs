@@ -3,6 +3,9 @@
 //! published text's and the plain machine's, which `Walk` holds against each
 //! other after each call.
 
+#[cfg(test)]
+mod tests;
+
 use super::held::Held;
 use super::player::ROWS;
 use super::some::{self, Mode};
@@ -69,7 +72,7 @@ impl List {
             self.write(&line, text::answer(call, answer, &self.walk.held));
         }
         let refusal = answer.refusal;
-        if text::moves(call) {
+        if call.edits() || call.shows() {
             self.ask("player", text::player);
             self.moves += 1;
             if self.moves.is_multiple_of(EVERY) {
@@ -98,6 +101,17 @@ impl List {
         self.calls.push_str(line);
         self.calls.push('\n');
         self.answers.extend(answer);
+    }
+
+    /// Each animation past its last frame, where it ends unless it loops.
+    fn play_each(&mut self) {
+        for animation in 0..self.walk.held.sheet.animations.len() as u16 {
+            self.call(Call::Play(animation));
+            self.call(Call::Tick {
+                dt: 65_536.0,
+                fps: 1.0,
+            });
+        }
     }
 
     fn finish(mut self) -> Self {
@@ -141,12 +155,13 @@ fn random_list(seed: u64) -> List {
     while let Some(step) = list.walk.step() {
         list.keep(&step);
     }
+    list.play_each();
     list.finish()
 }
 
 /// More edits than a journal holds; undo until it is declined, and what stands
-/// then is saved; redo until it is, a few undone again, and an edit, after which
-/// nothing can be made again.
+/// then is saved; redo until it is, and a drag over the full journal; a few undone
+/// again, and an edit, after which nothing can be made again.
 fn long_list(seed: u64) -> List {
     let mut random = Random::new(seed);
     let (sheet, book) = menu(&mut random);
@@ -164,6 +179,10 @@ fn long_list(seed: u64) -> List {
         draw(&mut list, Mode::Reads);
     });
     while list.call(Call::Redo) == 0 {}
+    let standing = list.walk.held.player.standing;
+    while list.walk.held.player.standing == standing {
+        draw(&mut list, Mode::Drags);
+    }
     (0..9).for_each(|_| {
         list.call(Call::Undo);
     });
@@ -176,135 +195,4 @@ fn long_list(seed: u64) -> List {
         draw(&mut list, Mode::Reads);
     });
     list.finish()
-}
-
-#[cfg(test)]
-mod tests {
-    use super::*;
-    use crate::curves::{CONSTANT, HERMITE, STEP};
-
-    /// Asserts that each of the words begins enough lines, or stands in them.
-    fn each_occurs(words: &[&str], least: usize, lines: &[String], at: fn(&str, &str) -> bool) {
-        for word in words {
-            let count = lines.iter().filter(|line| at(line, word)).count();
-            println!("{word}: {count}");
-            assert!(count >= least, "{word}: {count}");
-        }
-    }
-
-    fn lines(texts: impl Iterator<Item = Vec<u8>>) -> Vec<String> {
-        let text = texts.collect::<Vec<_>>().concat();
-        String::from_utf8_lossy(&text)
-            .lines()
-            .map(str::to_string)
-            .collect()
-    }
-
-    #[test]
-    fn every_kind_of_call_and_answer_is_in_the_lists() {
-        let calls = lines(lists(1).map(|list| list.calls.into_bytes()));
-        assert!((3000..9000).contains(&calls.len()));
-        let verbs = [
-            "play",
-            "pose",
-            "tick",
-            "key ",
-            "slope",
-            "undo",
-            "redo",
-            "read pane",
-            "read material",
-            "read all",
-            "resolve pane",
-            "resolve srt",
-            "name",
-            "next",
-            "cascade",
-            "player",
-            "keys",
-            "save",
-        ];
-        each_occurs(&verbs, 20, &calls, |line, word| line.starts_with(word));
-
-        let answers = lines(lists(1).map(|list| list.answers));
-        let told = [
-            "ok",
-            "declined 6",
-            "declined 7",
-            "declined 8",
-            "declined 9",
-            "declined 10",
-            "declined 11",
-            "idle",
-            "running",
-            "ended",
-            "ended next",
-            "none",
-            "row ",
-            "level ",
-            "shown",
-            "hidden",
-            "name ",
-            "next ",
-            "translate ",
-            "pane ",
-            "material ",
-            "saved ",
-        ];
-        each_occurs(&told, 3, &answers, |line, word| line.starts_with(word));
-        // NaNs are too rare for these lists; the curves of `vectors` have them.
-        let channels = [
-            " translate_",
-            " rotate_",
-            " scale_",
-            " size_",
-            " visible ",
-            "_top_",
-            "_bottom_",
-            " layer_",
-            " texture_",
-            " indirect_",
-            " alpha_reference ",
-            " black_",
-            " white_",
-            "~",
-        ];
-        each_occurs(&channels, 1, &answers, |line, word| line.contains(word));
-    }
-
-    #[test]
-    fn sheets_have_curves_of_each_kind_and_textures_out_of_range() {
-        let sheets: Vec<Sheet> = lists(1).map(|list| list.walk.held.sheet).collect();
-        for curve in [CONSTANT, STEP, HERMITE] {
-            let with = |sheet: &&Sheet| sheet.targets.iter().any(|t| t.curve == curve);
-            assert!(sheets.iter().filter(with).count() > 5);
-        }
-        let outside = |sheet: &Sheet| {
-            let slots = sheet
-                .targets
-                .iter()
-                .filter(|t| t.code == *b"FLTP" && t.layer < 3);
-            let mut values = slots.flat_map(|t| &sheet.values[t.keys()]);
-            values.any(|&value| value >= sheet.textures.len() as f32)
-        };
-        assert!(sheets.iter().any(outside));
-        let rows = || sheets.iter().flat_map(|sheet| &sheet.animations);
-        assert!(rows().any(|row| row.looping == 1) && rows().any(|row| row.looping == 0));
-    }
-
-    #[test]
-    fn sheets_are_saved_as_they_were_and_otherwise() {
-        let answers = lines(lists(1).map(|list| list.answers));
-        let saves = answers.iter().filter(|line| line.starts_with("saved "));
-        let (same, other): (Vec<_>, Vec<_>) =
-            saves.partition(|line| line.contains(" bytes, 0 differ "));
-        assert!(same.len() > 20 && other.len() > 20);
-    }
-
-    #[test]
-    fn the_long_list_fills_the_journal() {
-        let list = long_list(1);
-        let player = &list.walk.held.player;
-        assert!(player.accepted > 128 && player.undone > 128 && player.redone == 128);
-    }
 }

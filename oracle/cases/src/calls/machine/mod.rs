@@ -1,7 +1,10 @@
 //! The plain machine of document 01, "Playing and editing", fed the calls
 //! alone. It has no journal: its keys are always the loaded ones with the
-//! standing list made in order. It declines by the table on its own state, of
-//! which rows 1, 3, 4 and 5 decline nothing.
+//! standing list made in order, and then, of document 02, "an open drag's last
+//! accepted request .. as a last, unnumbered edit". It declines by the table on its
+//! own state, of which rows 1, 3, 4 and 5 decline nothing.
+
+mod drags;
 
 use super::player::{Player, ROWS};
 use super::readings::{self, LentBook, refused};
@@ -11,9 +14,11 @@ use crate::bits::bits_of;
 use crate::format::load::Arrays;
 use crate::format::save;
 use crate::format::sheet::Sheet;
+use drags::Drag;
 
-/// How often the keys are made anew where one more edit would do.
-const AGAIN: u64 = 16;
+/// The keys are made anew where one more edit would do: each time while fewer edits
+/// stand, and once in so many times.
+const AGAIN: usize = 16;
 
 /// A standing edit.
 #[derive(Clone, Copy, Debug)]
@@ -29,14 +34,17 @@ pub struct Machine {
     loaded: Arrays,
     standing: Vec<Edit>,
     redo: Vec<Edit>,
+    drag: Option<Drag>,
     reach: u64,
     accepted: u64,
     undone: u64,
     redone: u64,
     pub view: View,
-    /// The loaded keys with the standing list made in order.
+    /// The loaded keys with the standing list made in order, and then the drag.
     keys: Arrays,
     reference: Reference,
+    /// How many edits were made on the keys as they were.
+    made: usize,
 }
 
 impl Machine {
@@ -46,6 +54,7 @@ impl Machine {
             sheet: sheet.clone(),
             standing: Vec::new(),
             redo: Vec::new(),
+            drag: None,
             reach: 0,
             accepted: 0,
             undone: 0,
@@ -54,6 +63,7 @@ impl Machine {
             keys: loaded.clone(),
             loaded,
             reference: Reference::new(sheet),
+            made: 0,
         }
     }
 
@@ -85,12 +95,22 @@ impl Machine {
                 request,
             } => self.edit(call, book, (track, key, request)),
             Call::Undo => {
-                let refusal = if self.reach == 0 { 11 } else { 0 };
+                let refusal = table::take_rows(self.is_open(), self.reach);
                 self.unless(refusal, call, book, Self::undo)
             }
             Call::Redo => {
-                let refusal = if self.redo.is_empty() { 11 } else { 0 };
+                let refusal = table::take_rows(self.is_open(), self.redo.len() as u64);
                 self.unless(refusal, call, book, Self::redo)
+            }
+            Call::OpenDrag { track, key } => self.open_drag(call, book, track, key),
+            Call::Drag { frame, value } => self.drag(call, book, Request::Key { frame, value }),
+            Call::DropDrag => {
+                let refusal = table::drag_rows(self.is_open());
+                self.unless(refusal, call, book, Self::drop_drag)
+            }
+            Call::AbandonDrag => {
+                let refusal = table::drag_rows(self.is_open());
+                self.unless(refusal, call, book, Self::abandon_drag)
             }
             Call::Save { short } => {
                 let refusal = table::save_rows(&self.sheet, short);
@@ -121,23 +141,47 @@ impl Machine {
         Answer { refusal, told }
     }
 
-    /// "Accepted edit: append, reach + 1 up to 128, redo emptied, accepted + 1."
+    fn is_open(&self) -> bool {
+        self.drag.is_some()
+    }
+
+    fn opening_rows(&self, track: u16, key: u16) -> u8 {
+        let selection = self.view.selection;
+        table::opening_rows(&self.sheet, selection, self.is_open(), track, key)
+    }
+
+    /// Of a key that there is.
+    fn request_rows(&mut self, edit: &Edit) -> u8 {
+        let (sheet, reference) = (&self.sheet, &mut self.reference);
+        let asked = (edit.track, edit.key, edit.request);
+        table::request_rows(sheet, reference, &self.keys, edit.animation, asked)
+    }
+
     fn edit(&mut self, call: &Call, book: &LentBook, asked: (u16, u16, Request)) -> Answer {
-        let (sheet, keys, animation) = (&self.sheet, &self.keys, self.view.selection);
-        let refusal = table::edit_rows(sheet, &mut self.reference, keys, animation, asked);
         let (track, key, request) = asked;
+        let edit = Edit {
+            animation: self.view.selection,
+            track,
+            key,
+            request,
+        };
+        let refusal = match self.opening_rows(track, key) {
+            0 => self.request_rows(&edit),
+            refusal => refusal,
+        };
         self.unless(refusal, call, book, |m| {
-            m.reach = (m.reach + 1).min(ROWS as u64);
-            m.redo.clear();
-            m.accepted += 1;
-            m.append(Edit {
-                animation,
-                track,
-                key,
-                request,
-            });
+            m.append(edit);
+            m.make_last(edit);
             Told::Done
         })
+    }
+
+    /// "Accepted edit: append, reach + 1 up to 128, redo emptied, accepted + 1."
+    fn append(&mut self, edit: Edit) {
+        self.standing.push(edit);
+        self.reach = (self.reach + 1).min(ROWS as u64);
+        self.redo.clear();
+        self.accepted += 1;
     }
 
     /// "Undo: the last standing edit moves to redo, reach − 1, undone + 1."
@@ -153,22 +197,24 @@ impl Machine {
     /// "Redo: the edit moved last moves back, reach + 1, redone + 1."
     fn redo(&mut self) -> Told {
         let edit = self.redo.pop().expect("row 11");
+        self.standing.push(edit);
         self.reach += 1;
         self.redone += 1;
-        self.append(edit);
+        self.make_last(edit);
         Told::Done
     }
 
-    /// One edit more at the end of the list: made on the keys that the earlier
-    /// ones left. Now and then all are made anew, with the same outcome.
-    fn append(&mut self, edit: Edit) {
-        self.standing.push(edit);
+    /// The edit that now comes last, made on the keys that were there. Now and then
+    /// all are made anew, with the same outcome: a drag's request leaves nothing of
+    /// the one before it.
+    fn make_last(&mut self, edit: Edit) {
         self.make(edit);
         self.reference.take(usize::from(edit.track), &mut self.keys);
-        if (self.accepted + self.redone).is_multiple_of(AGAIN) {
-            let before = self.keys.each_ref().map(|array| bits(array));
+        self.made += 1;
+        if self.standing.len() < AGAIN || self.made.is_multiple_of(AGAIN) {
+            let before = self.keys();
             self.make_all();
-            assert_eq!(before, self.keys.each_ref().map(|array| bits(array)));
+            assert_eq!(before, self.keys());
         }
     }
 
@@ -182,18 +228,21 @@ impl Machine {
         self.reference.edit(animation, track, key, request);
     }
 
-    /// The loaded keys with the standing list made in order.
+    /// The loaded keys with the standing list made in order, and then the drag.
     fn make_all(&mut self) {
         self.reference.put_all(&self.loaded);
         for i in 0..self.standing.len() {
             self.make(self.standing[i]);
         }
+        if let Some(edit) = self.drag.and_then(|drag| drag.last()) {
+            self.make(edit);
+        }
         self.reference.take_all(&mut self.keys);
     }
 
-    /// Whether no edit stands.
+    /// Whether no edit stands, and none is made by a drag.
     pub fn is_unedited(&self) -> bool {
-        self.standing.is_empty()
+        self.standing.is_empty() && self.drag.is_none_or(|drag| drag.last().is_none())
     }
 
     /// The keys' bits.
@@ -202,7 +251,8 @@ impl Machine {
     }
 
     /// "The player carries reach, counts and standing (the standing list's
-    /// length) as here", and the redo list's length: whether it does.
+    /// length) as here", and the redo list's length and the drag, which closed is all
+    /// 0: whether it does.
     pub fn is_carried_by(&self, player: &Player) -> bool {
         let view = self.view;
         let of_view = (
@@ -222,6 +272,7 @@ impl Machine {
         let p = player;
         of_view == (p.selection, p.playing, p.preview, p.frame)
             && counts == [p.reach, p.redo, p.accepted, p.undone, p.redone, p.standing]
+            && self.drag.map_or_else(Default::default, |d| d.carried()) == p.drag
     }
 }
 

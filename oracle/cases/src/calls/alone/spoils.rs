@@ -1,151 +1,24 @@
-//! Every field of the player, every row of the journal, every key and every
-//! length spoiled alone, and several of rows 1 to 5 broken at once, in a few
-//! states, with calls of every kind.
+//! What is spoiled alone, and together.
 
-use super::ends;
-use super::held::Held;
-use super::player::{Player, ROWS};
-use super::spoil::{self, Spoil};
-use super::{Call, NONE, Request};
 use crate::bits::bits_of;
+use crate::calls::held::Held;
+use crate::calls::player::{Player, ROWS};
+use crate::calls::spoil::{self, Spoil};
 
 const MOST: u64 = 1 << 40;
-
-/// How many edits fill a journal, and some more.
-const MANY: usize = ROWS + 12;
-
-/// A state: freshly loaded, and then these calls, all of them accepted. Each sheet
-/// has a curve of each kind with three keys, the first two in the first animation.
-pub fn states() -> Vec<(Held, Vec<Call>)> {
-    let selected = vec![Call::Play(0)];
-    let edits = |n: usize| -> Vec<Call> { (0..n).map(edit).collect() };
-    let lists = [
-        Vec::new(),
-        selected.clone(),
-        [&selected[..], &edits(6), &[Call::Undo; 2]].concat(),
-        [&selected[..], &edits(MANY), &[Call::Undo; 20]].concat(),
-        [&selected[..], &edits(MANY)].concat(),
-        [&selected[..], &edits(ROWS), &[Call::Undo; ROWS]].concat(),
-        [&selected[..], &edits(MANY), &[Call::Undo; ROWS]].concat(),
-    ];
-    let mut states = Vec::new();
-    for (sheet, book) in ends::pairs() {
-        let calls = lists.iter().cloned();
-        states.extend(calls.map(|calls| (Held::new(&sheet, &book), calls)));
-    }
-    states
-}
-
-/// Edits that go round the keys of the first two tracks, no two alike.
-fn edit(n: usize) -> Call {
-    let track = (n % 2) as u16;
-    let key = (n / 2 % 3) as u16;
-    let frame = f32::from(key) * 3.0 + n as f32 / 256.0;
-    let request = if n % 5 == 4 && track == 0 {
-        Request::Slope(n as f32)
-    } else {
-        Request::Key {
-            frame,
-            value: n as f32,
-        }
-    };
-    Call::Edit {
-        track,
-        key,
-        request,
-    }
-}
-
-fn texture_name(material: u16, slot: u16) -> Call {
-    Call::TextureName { material, slot }
-}
-
-/// Calls of every kind, accepted and declined.
-pub fn calls() -> Vec<Call> {
-    let key_edit = |key, frame| Call::Edit {
-        track: 0,
-        key,
-        request: Request::Key { frame, value: 2.0 },
-    };
-    vec![
-        Call::Play(1),
-        Call::Play(2),
-        Call::Play(NONE),
-        Call::Pose(0, 1.5),
-        Call::Pose(7, 1.5),
-        Call::Pose(0, f32::NAN),
-        Call::Tick { dt: 0.5, fps: 8.0 },
-        Call::Tick { dt: 8.0, fps: 8.0 }, // past each animation's end
-        Call::Tick {
-            dt: f32::MAX,
-            fps: f32::MAX,
-        },
-        key_edit(1, 4.0),
-        key_edit(3, 4.0),
-        key_edit(0, f32::INFINITY),
-        Call::Edit {
-            track: 0,
-            key: 2,
-            request: Request::Slope(-1.0),
-        },
-        Call::Edit {
-            track: 1,
-            key: 2,
-            request: Request::Slope(-1.0),
-        },
-        Call::Undo,
-        Call::Redo,
-        Call::ReadPane {
-            pane: 0,
-            channel: 0,
-        },
-        Call::ReadPane {
-            pane: 0,
-            channel: 28,
-        },
-        Call::ReadMaterial {
-            material: 0,
-            channel: 21,
-        },
-        Call::ReadAll { short: 0 },
-        Call::ReadAll { short: 1 },
-        Call::ReadAll { short: 2 },
-        Call::ReadAll { short: 3 },
-        Call::ReadAll { short: 4 },
-        Call::ResolvePane(0),
-        Call::ResolveSrt {
-            material: 0,
-            layer: 1,
-        },
-        texture_name(1, 2),
-        texture_name(1, 3),
-        texture_name(0, 4),
-        texture_name(0, NONE),
-        Call::Cascade { short: 0 },
-        Call::Cascade { short: 1 },
-        Call::Cascade { short: 2 },
-        Call::Cascade { short: 3 },
-        Call::Cascade { short: 4 },
-        Call::Cascade { short: 5 },
-        Call::Cascade { short: 6 },
-        Call::NextName(0),
-        Call::Save { short: 0 },
-        Call::Save { short: 1 },
-        Call::Save { short: 2 },
-        Call::Save { short: 3 },
-    ]
-}
 
 /// Each set of spoils is made by itself.
 pub fn spoils(held: &Held) -> Vec<Vec<Spoil>> {
     let single = views()
         .chain(counts(&held.player))
+        .chain(drags(held))
         .chain(journals(held))
         .chain(keys(held))
         .chain(lent(held));
     let single = single.map(|spoil| vec![spoil]);
     let pairs = agreeing(&held.player);
-    single.chain(pairs).chain(together(held)).collect()
+    let groups = pairs.chain(opened()).chain(together(held));
+    single.chain(groups).collect()
 }
 
 /// Several of rows 1 to 5 broken at once: the lowest number declines.
@@ -213,6 +86,9 @@ const NUMBERS: [u32; 16] = [
     0x4780_0000, // 65,536
 ];
 
+/// Tracks and keys, of which each sheet has three.
+const PLACES: [u64; 8] = [0, 1, 2, 3, 4, 255, 256, 65_535];
+
 fn counts(player: &Player) -> impl Iterator<Item = Spoil> {
     let own = [
         player.reach,
@@ -231,6 +107,62 @@ fn counts(player: &Player) -> impl Iterator<Item = Spoil> {
             let all = near.into_iter().chain(sizes).chain(far);
             all.map(move |value| field(number, 0, value))
         })
+}
+
+/// Every number of the drag, open or not.
+fn drags(held: &Held) -> impl Iterator<Item = Spoil> {
+    let drag = held.player.drag;
+    let flags = [spoil::OPEN, spoil::MOVED];
+    let flags = flags
+        .into_iter()
+        .flat_map(|flag| [0, 1].map(|n| field(flag, 0, n)));
+    let places = [spoil::DRAG_TRACK, spoil::DRAG_KEY];
+    let places = places
+        .into_iter()
+        .flat_map(|place| PLACES.map(|n| field(place, 0, n)));
+    let start = (0..3).flat_map(move |i| {
+        let own = f32::from_bits(drag.start[i]);
+        let near = [own, own.next_up(), own.next_down(), -own];
+        let frames = held.keys[0].iter();
+        let frames = frames.flat_map(|frame| [*frame, frame.next_up(), frame.next_down()]);
+        let all = NUMBERS
+            .map(f32::from_bits)
+            .into_iter()
+            .chain(near)
+            .chain(frames);
+        all.map(move |x| field(spoil::START + i as u8, 0, u64::from(bits_of(x))))
+    });
+    flags.chain(places).chain(start)
+}
+
+/// Drags of a few keys, of keys and a track past the last, open or closed, accepted or
+/// not, from 0, from 1 and from a NaN: their fields are looked at only while one is
+/// open, and the starting key only where keys are taken.
+fn opened() -> impl Iterator<Item = Vec<Spoil>> {
+    let rows = [
+        (0, 0),
+        (0, 2),
+        (0, 3),
+        (1, 1),
+        (1, 3),
+        (2, 2),
+        (2, 3),
+        (3, 0),
+    ];
+    let flags = (0..4).flat_map(move |flags| rows.map(|row| (flags, row)));
+    let numbers = [0x0000_0000, 0x3F80_0000, NUMBERS[0]];
+    flags.flat_map(move |(flags, (track, key))| {
+        numbers.map(|bits| {
+            let start = (spoil::START..spoil::FIELDS).map(|f| field(f, 0, u64::from(bits)));
+            let row = [
+                field(spoil::OPEN, 0, flags & 1),
+                field(spoil::MOVED, 0, flags >> 1),
+                field(spoil::DRAG_TRACK, 0, track),
+                field(spoil::DRAG_KEY, 0, key),
+            ];
+            row.into_iter().chain(start).collect()
+        })
+    })
 }
 
 /// Two counts that grow alike, so that the sums agree: to their bound and past
@@ -268,9 +200,8 @@ fn agreeing(player: &Player) -> impl Iterator<Item = Vec<Spoil>> {
 fn journals(held: &Held) -> impl Iterator<Item = Spoil> {
     (0..ROWS).flat_map(|row| {
         let entry = held.player.journal[row];
-        let places = [0, 1, 2, 3, 4, 255, 256, 65_535];
-        let tracks = places.map(|n| field(spoil::TRACK, row, n));
-        let keys = places.map(|n| field(spoil::KEY, row, n));
+        let tracks = PLACES.map(|n| field(spoil::TRACK, row, n));
+        let keys = PLACES.map(|n| field(spoil::KEY, row, n));
         let numbers = entry
             .before
             .into_iter()
