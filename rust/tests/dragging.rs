@@ -1,25 +1,13 @@
 //! A drag: a key that is moved any number of times and leaves one edit, or none.
 
+mod common;
+
+use common::{KEY, PLACE, TRACK, bits, posed};
 use dovebolt::raw::Drag;
 use dovebolt::{Keys, Player, Reading, Refusal, example};
 
-/// The Hermite track of animation 0, its second key (8, 16, 0), and where that key is in the arrays.
-const TRACK: u16 = 3;
-const KEY: u16 = 1;
-const PLACE: usize = 6;
-
-/// Animation 0 is held at frame 6, after its Step curves' second keys and before its Hermite curve's.
-fn posed() -> (Vec<u8>, Player, Keys) {
-    let sheet = example::sheet();
-    let (mut player, keys) = Player::load(&sheet).unwrap();
-    player.pose(&sheet, Some(0), 6.0).unwrap();
-    (sheet, player, keys)
-}
-
-fn bits(keys: &Keys) -> [Vec<u32>; 3] {
-    [&keys.frames, &keys.values, &keys.slopes]
-        .map(|array| array.iter().map(|x| x.to_bits()).collect())
-}
+/// Animation 0's frame in these tests: after its Step curves' second keys and before its Hermite curve's.
+const FRAME: f32 = 6.0;
 
 fn key_at(keys: &Keys, place: usize) -> [f32; 3] {
     [keys.frames[place], keys.values[place], keys.slopes[place]]
@@ -47,7 +35,7 @@ fn edited(sheet: &[u8], player: &mut Player, keys: &mut Keys) {
 
 #[test]
 fn forty_drags_are_one_edit() {
-    let (sheet, mut player, mut keys) = posed();
+    let (sheet, mut player, mut keys) = posed(FRAME);
     player
         .slope_edit(&sheet, &mut keys, TRACK, KEY, 0.5)
         .unwrap();
@@ -99,7 +87,7 @@ fn a_drop_is_the_edit_of_the_last_drag() {
     ];
     for (track, keys_of_track) in [(0, 2), (1, 2), (2, 1), (3, 2), (4, 2)] {
         for key in 0..keys_of_track {
-            let (sheet, mut player, mut keys) = posed();
+            let (sheet, mut player, mut keys) = posed(FRAME);
             edited(&sheet, &mut player, &mut keys);
             player
                 .pose(&sheet, Some(u16::from(track == 4)), 1.0)
@@ -124,7 +112,7 @@ fn a_drop_is_the_edit_of_the_last_drag() {
 
 #[test]
 fn an_abandoned_drag_leaves_nothing() {
-    let (sheet, mut player, mut keys) = posed();
+    let (sheet, mut player, mut keys) = posed(FRAME);
     edited(&sheet, &mut player, &mut keys);
     let (was, were) = (state(&player), bits(&keys));
     for drags in [0, 1, 40] {
@@ -144,7 +132,7 @@ fn an_abandoned_drag_leaves_nothing() {
 /// All 128 edits are undone. A drag that is abandoned keeps every redo, and so does one that is dropped at once.
 #[test]
 fn a_full_redo_list_is_kept() {
-    let (sheet, mut player, mut keys) = posed();
+    let (sheet, mut player, mut keys) = posed(FRAME);
     for n in 1..=128 {
         player
             .key_edit(&sheet, &mut keys, TRACK, KEY, 6.0, n as f32)
@@ -175,7 +163,7 @@ fn a_full_redo_list_is_kept() {
 /// A drop at the longest reach takes the place of the oldest edit, as an edit does, and empties the redo list.
 #[test]
 fn a_drop_with_a_full_journal() {
-    let (sheet, mut player, mut keys) = posed();
+    let (sheet, mut player, mut keys) = posed(FRAME);
     for n in 0..128 {
         player
             .key_edit(&sheet, &mut keys, TRACK, KEY, 6.0, n as f32)
@@ -214,7 +202,7 @@ fn a_drop_with_a_full_journal() {
 /// A drag that is declined is as if it was never asked for: the drop is the edit of the last accepted one.
 #[test]
 fn declined_drags_do_not_count() {
-    let (sheet, mut player, mut keys) = posed();
+    let (sheet, mut player, mut keys) = posed(FRAME);
     player.open_drag(&sheet, &keys, TRACK, KEY).unwrap();
     player.drag(&sheet, &mut keys, 6.0, 20.0).unwrap();
     let (was, were) = (state(&player), bits(&keys));
@@ -280,7 +268,7 @@ const SEEN: [Seen; 6] = [
 fn readings_see_the_key_where_it_is() {
     let book = example::book();
     for Seen(track, key, [frame, value], [before, after], reads) in SEEN {
-        let (sheet, mut player, mut keys) = posed();
+        let (sheet, mut player, mut keys) = posed(FRAME);
         player.open_drag(&sheet, &keys, track, key).unwrap();
         assert_eq!(reads(&player, &sheet, &book, &keys), before);
         player.drag(&sheet, &mut keys, frame, value).unwrap();
@@ -293,7 +281,7 @@ fn readings_see_the_key_where_it_is() {
 /// A save of an open drag has the dragged key in it, though no edit stands.
 #[test]
 fn a_save_has_the_dragged_key() {
-    let (sheet, mut player, mut keys) = posed();
+    let (sheet, mut player, mut keys) = posed(FRAME);
     player.open_drag(&sheet, &keys, TRACK, KEY).unwrap();
     assert_eq!(player.save(&sheet, &keys).unwrap(), sheet);
     player.drag(&sheet, &mut keys, 6.5, -20.25).unwrap();
@@ -311,7 +299,7 @@ fn a_save_has_the_dragged_key() {
 /// The key is opened in animation 0; play, tick and pose move on to animation 1 and to none, and the drag stays with it.
 #[test]
 fn playing_goes_on() {
-    let (sheet, mut player, mut keys) = posed();
+    let (sheet, mut player, mut keys) = posed(FRAME);
     player.open_drag(&sheet, &keys, TRACK, KEY).unwrap();
     player.play(&sheet, Some(1)).unwrap();
     player.drag(&sheet, &mut keys, 6.0, 20.0).unwrap();

@@ -1,23 +1,9 @@
 //! What a saved sheet holds, byte by byte, and that loading it gives the keys that were saved.
 
-use dovebolt::{Keys, Player, example};
+mod common;
 
-/// The Hermite track of animation 0, its second key, and where that key is in the arrays.
-const TRACK: u16 = 3;
-const KEY: u16 = 1;
-const PLACE: usize = 6;
-
-fn posed() -> (Vec<u8>, Player, Keys) {
-    let sheet = example::sheet();
-    let (mut player, keys) = Player::load(&sheet).unwrap();
-    player.pose(&sheet, Some(0), 2.0).unwrap();
-    (sheet, player, keys)
-}
-
-fn bits(keys: &Keys) -> [Vec<u32>; 3] {
-    [&keys.frames, &keys.values, &keys.slopes]
-        .map(|array| array.iter().map(|x| x.to_bits()).collect())
-}
+use common::{KEY, PLACE, TRACK, bits, posed};
+use dovebolt::Player;
 
 /// A sheet of these counts. Each track is a Hermite curve of eight keys, and their numbers all differ.
 fn sheet_of(animations: u16, contents: u16, tracks: u16, textures: u16) -> Vec<u8> {
@@ -42,7 +28,7 @@ fn sheet_of(animations: u16, contents: u16, tracks: u16, textures: u16) -> Vec<u
 /// One key has changed, and the bytes of its frame, value and slope are all that differ.
 #[test]
 fn an_edited_key() {
-    let (sheet, mut player, mut keys) = posed();
+    let (sheet, mut player, mut keys) = posed(2.0);
     player
         .key_edit(&sheet, &mut keys, TRACK, KEY, 6.5, -20.25)
         .unwrap();
@@ -62,7 +48,7 @@ fn an_edited_key() {
 /// Patterns survive that a comparison of numbers, or a flush to zero, would lose.
 #[test]
 fn zeros_and_subnormals() {
-    let (sheet, player, mut keys) = posed();
+    let (sheet, player, mut keys) = posed(2.0);
     let least = f32::from_bits(1);
     (keys.frames[5], keys.values[5], keys.slopes[5]) = (-0.0, least, -0.0);
     (keys.frames[6], keys.values[6], keys.slopes[6]) = (least, -0.0, -least);
@@ -75,7 +61,7 @@ fn zeros_and_subnormals() {
 /// Edits and their undos with playing between them leave the sheet; of 200 edits 128 can be undone.
 #[test]
 fn standing_edits_decide() {
-    let (sheet, mut player, mut keys) = posed();
+    let (sheet, mut player, mut keys) = posed(2.0);
     for edits in [1, 128, 200] {
         for n in 0..edits {
             player

@@ -3,7 +3,6 @@ use Prim.Native.Nat.{ℕ}
 use mathlib.Core.Path.{_≡_, sym, _∙_}
 use mathlib.Core.Bool.{true}
 use mathlib.Core.List.{List, [], _++_}
-use borrow.Author.Tests.{ne-eqb}
 use lib.ListN.{set}
 use lib.Ieee.{Float}
 use Rattle.laws.specs.Rows.{Row, declines, first-held}
@@ -54,10 +53,6 @@ module _ (s : List ℕ) (p : Player) (fs vs ss : List Float) (x v : Float) {n : 
   unfolding dragTable dragRows
   drag-allowed z = held-allowed s p fs vs ss _ e z
 
-  pub drag-refused : (n ≡ 0 → ⊥) → gave (record { refusal = n; player = p }) (keys fs vs ss) ≡ dragOf s p (keys fs vs ss) x v
-  unfolding dragOf
-  drag-refused d = rw (← e, ne-eqb n 0 d)
-
   pub drag-made : (y : Spot) (k : Key) (q : Player) (fs′ vs′ ss′ : List Float) → n ≡ 0 → y ≡ spotOf s (p .drag .track) (p .drag .key)
       → k ≡ editedAt (keys fs vs ss) y (request.Key x v) → q ≡ withDrag p (movedOn (p .drag))
       → fs′ ≡ set fs (y .at) (k .frame) → vs′ ≡ set vs (y .at) (k .value) → ss′ ≡ set ss (y .at) (k .slope)
@@ -74,10 +69,6 @@ module _ (s : List ℕ) (p : Player) (fs vs ss : List Float) {n : ℕ} (e : n �
       → q ≡ droppedPlayer p (keyAt (keys fs vs ss) (heldAt s p))
   unfolding keyAt spotOf
   dropped-is y k a b f = f ∙ rw (b, a)
-
-  pub abandon-refused : (n ≡ 0 → ⊥) → gave (record { refusal = n; player = p }) (keys fs vs ss) ≡ abandonOf s p (keys fs vs ss)
-  unfolding abandonOf
-  abandon-refused d = rw (← e, ne-eqb n 0 d)
 
   pub abandon-made : (y : Spot) (k : Key) (none : Drag) (q : Player) (fs′ vs′ ss′ : List Float) → n ≡ 0 → y ≡ spotOf s (p .drag .track) (p .drag .key) → k ≡ startOf (p .drag)
       → none ≡ noDrag → q ≡ withDrag p none

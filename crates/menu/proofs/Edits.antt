@@ -4,7 +4,6 @@ use mathlib.Core.Path.{_≡_, sym, _∙_}
 use mathlib.Core.Bool.{Bool, true}
 use mathlib.Core.List.{List, _++_}
 use native.Mathlib.Omega.{arith}
-use borrow.Author.Tests.{ne-eqb}
 use lib.ListN.{set}
 use lib.Ieee.{Float}
 use Rattle.laws.specs.Rows.{Row, declines, first-held, stops, goes}
@@ -52,10 +51,6 @@ module _ (s : List ℕ) (p : Player) (fs vs ss : List Float) (track key : ℕ) (
   allowed z =
       let h = accepted-key s (p .selection) (p .drag .«open») track key (keys fs vs ss) r (first-held (stateRows s p (keys fs vs ss)) _ tt (sym e ∙ z) .1) .0 in
       on-key (state-ready s p fs vs ss _ e z) track key h
-
-  pub refused-is : (n ≡ 0 → ⊥) → gave (record { refusal = n; player = p }) (keys fs vs ss) ≡ editOf s p (keys fs vs ss) track key r
-  unfolding editOf
-  refused-is d = rw (← e, ne-eqb n 0 d)
 
   pub made-is : (x : Spot) (b a : Key) (q : Player) (fs′ vs′ ss′ : List Float) → n ≡ 0 → x ≡ spotOf s track key → b ≡ curve.keyAt fs vs ss (x .at)
       → a ≡ editedAt (keys fs vs ss) x r → q ≡ editedPlayer p (record { track = track; key = key; before = b; after = a })

@@ -4,7 +4,7 @@ use mathlib.Core.Path.{_≡_, sym, _∙_}
 use mathlib.Core.Bool.{Bool, true, false, not}
 use mathlib.Core.List.{List}
 use native.Mathlib.Omega.{arith}
-use borrow.Author.Tests.{ne-eqb, eqb-false, not-true, not-false}
+use borrow.Author.Tests.{eqb-false, not-true, not-false}
 use lib.Dec.{eqb}
 use lib.ListN.{set}
 use lib.Ieee.{Float}
@@ -37,10 +37,6 @@ can-take {s} {p} w Redo d =
     record { redo = omega arith; reach = omega (arith, c .room); redone = c .redoes; standing = c .stands }
 
 module _ (s : List ℕ) (p : Player) (way : Way) (fs vs ss : List Float) (n : ℕ) (e : n ≡ declines (takeTable way s p (keys fs vs ss))) where
-  pub take-refused : (n ≡ 0 → ⊥) → gave (record { refusal = n; player = p }) (keys fs vs ss) ≡ takeOf way s p (keys fs vs ss)
-  unfolding takeOf
-  take-refused d = rw (← e, ne-eqb n 0 d)
-
   ready : n ≡ 0 → StateReady s p (keys fs vs ss)
   unfolding takeTable
   ready z = state-ready s p fs vs ss _ e z

@@ -4,12 +4,13 @@ use mathlib.Core.Path.{_≡_, sym, _∙_}
 use mathlib.Core.Bool.{true, cond}
 use mathlib.Core.List.{List, [], _++_}
 use borrow.Author.Tests.{eqb-true, ne-eqb}
-use lib.Dec.{eqb}
+use lib.Dec.{T, eqb}
 use lib.ListN.{length}
 use lib.Ieee.{Float}
-use Rattle.laws.specs.Rows.{Row, declines, held, first-held, hold-at, row-in, stops, goes, row-laws}
+use Rattle.laws.specs.Rows.{Row, row, numbered, In, declines, first-held, hold-at, held-at, row-in, stops, goes, row-laws}
 use Rattle.laws.specs.Tests.{both}
 use Rattle.sheet.specs.Sizes.{keyCount}
+use Rattle.sheet.specs.Sheet.{sheetOk}
 use Rattle.sheet.specs.Checked.{Checked, checked}
 use Rattle.keys.specs.Load.{arraysOk, lengthsOk}
 use Rattle.reading.specs.Ready.{Ready, ready}
@@ -97,17 +98,15 @@ pub record KeysReady (s : List ℕ) (ks : Keys) : Type 0 where
   pub sheet : Checked s
   pub rules : keysOkOf s ks ≡ true
 
+-- rows among which both stand
+rows-ready : {s : List ℕ} {ks : Keys} (rs : List Row) → In (row 1 (sheetOk s)) rs → In (row 4 (keysOkOf s ks)) rs → T (numbered rs) → declines rs ≡ 0 → KeysReady s ks
+rows-ready {s} rs i k t e = record { sheet = checked s (held-at 1 rs i t e); rules = held-at 4 rs k t e }
+
 pub keys-ready : (s : List ℕ) (fs vs ss : List Float) {n : ℕ} → n ≡ declines (keysRows s (keys fs vs ss)) → n ≡ 0 → KeysReady s (keys fs vs ss)
-keys-ready s fs vs ss e z =
-    let rs = keysRows s (keys fs vs ss) in
-    let h = held rs tt (sym e ∙ z) in
-    record { sheet = checked s (hold-at 1 rs (search row-in) h); rules = hold-at 4 rs (search row-in) h }
+keys-ready s fs vs ss e z = rows-ready (keysRows s (keys fs vs ss)) (search row-in) (search row-in) tt (sym e ∙ z)
 
 pub book-ready : (s b : List ℕ) (fs vs ss : List Float) {n : ℕ} → n ≡ declines (bookRows s b (keys fs vs ss)) → n ≡ 0 → KeysReady s (keys fs vs ss)
-book-ready s b fs vs ss e z =
-    let rs = bookRows s b (keys fs vs ss) in
-    let h = held rs tt (sym e ∙ z) in
-    record { sheet = checked s (hold-at 1 rs (search row-in) h); rules = hold-at 4 rs (search row-in) h }
+book-ready s b fs vs ss e z = rows-ready (bookRows s b (keys fs vs ss)) (search row-in) (search row-in) tt (sym e ∙ z)
 
 -- with a player whose state is not broken, they are what a drag's question asks
 pub held-open : {s : List ℕ} {ks : Keys} (p : Player) → KeysReady s ks → playerOk s p ≡ true → Draggable s ks (p .drag)

@@ -1,5 +1,7 @@
 -- `abandon_drag` gives `abandonOf`, refusal, player and all three key arrays: the key is put back as it was at opening.
-use Rattle.menu.proofs.Drags.{abandon-refused, close-allowed, abandon-made}
+use Rattle.menu.specs.Calls.{abandonOf}
+use Rattle.menu.proofs.Results.{changed-not}
+use Rattle.menu.proofs.Drags.{close-allowed, abandon-made}
 use borrow.Author.Needs.{needs}
 use Rattle.menu.proofs.dragging.abandon_drag.Statement.{statement}
 use Rattle.menu.proofs.dragging.abandon_drag.Tie as tie
@@ -17,7 +19,8 @@ same-length-3 : tie.Need-same-length-3
 same-length-3 c = search needs
 
 returns : tie.Need-returns
-returns c = abandon-refused _ _ _ _ _ (c .before .close-refusal .ensures) (c .if1 .taken)
+unfolding abandonOf
+returns c = changed-not _ _ _ _ (c .before .close-refusal .ensures) (c .if1 .taken)
 
 cast-spot-of : tie.Need-cast-spot-of
 cast-spot-of c = search needs

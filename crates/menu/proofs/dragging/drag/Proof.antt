@@ -1,5 +1,7 @@
 -- `drag` gives `dragOf`, refusal, player and all three key arrays: a key edit of the open key, which the journal doesn't take.
-use Rattle.menu.proofs.Drags.{drag-refused, drag-allowed, drag-made}
+use Rattle.menu.specs.Calls.{dragOf}
+use Rattle.menu.proofs.Results.{changed-not}
+use Rattle.menu.proofs.Drags.{drag-allowed, drag-made}
 use borrow.Author.Needs.{needs}
 use Rattle.menu.proofs.dragging.drag.Statement.{statement}
 use Rattle.menu.proofs.dragging.drag.Tie as tie
@@ -17,7 +19,8 @@ same-length-3 : tie.Need-same-length-3
 same-length-3 c = search needs
 
 returns : tie.Need-returns
-returns c = drag-refused _ _ _ _ _ _ _ (c .before .drag-refusal .ensures) (c .if1 .taken)
+unfolding dragOf
+returns c = changed-not _ _ _ _ (c .before .drag-refusal .ensures) (c .if1 .taken)
 
 cast-spot-of : tie.Need-cast-spot-of
 cast-spot-of c = search needs

@@ -1,5 +1,7 @@
 -- `edit` gives `editOf`, refusal, player and all three key arrays: the edit of either kind: the key is made and put in its place, and its entry goes into the journal.
-use Rattle.menu.proofs.Edits.{refused-is, allowed, made-is}
+use Rattle.menu.specs.Calls.{editOf}
+use Rattle.menu.proofs.Results.{changed-not}
+use Rattle.menu.proofs.Edits.{allowed, made-is}
 use borrow.Author.Needs.{needs}
 use Rattle.menu.proofs.editing.edit.Statement.{statement}
 use Rattle.menu.proofs.editing.edit.Tie as tie
@@ -17,7 +19,8 @@ same-length-3 : tie.Need-same-length-3
 same-length-3 c = search needs
 
 returns : tie.Need-returns
-returns c = refused-is _ _ _ _ _ _ _ _ _ (c .before .edit-refusal .ensures) (c .if1 .taken)
+unfolding editOf
+returns c = changed-not _ _ _ _ (c .before .edit-refusal .ensures) (c .if1 .taken)
 
 spot-of-requires : tie.Need-spot-of-requires
 spot-of-requires c κs = let w = allowed _ _ _ _ _ _ _ _ _ (c .before .edit-refusal .ensures) (c .if1 .left) in (w .sheet, w .on)

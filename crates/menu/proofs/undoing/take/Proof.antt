@@ -1,5 +1,7 @@
 -- `take` gives `takeOf`, refusal, player and all three key arrays: the entry's key is left as the entry leaves it.
-use Rattle.menu.proofs.Undoes.{take-refused, take-can, take-allowed, take-made}
+use Rattle.menu.specs.Calls.{takeOf}
+use Rattle.menu.proofs.Results.{changed-not}
+use Rattle.menu.proofs.Undoes.{take-can, take-allowed, take-made}
 use borrow.Author.Needs.{needs}
 use Rattle.menu.proofs.undoing.take.Statement.{statement}
 use Rattle.menu.proofs.undoing.take.Tie as tie
@@ -17,7 +19,8 @@ same-length-3 : tie.Need-same-length-3
 same-length-3 c = search needs
 
 returns : tie.Need-returns
-returns c = take-refused _ _ _ _ _ _ _ (c .before .take-refusal .ensures) (c .if1 .taken)
+unfolding takeOf
+returns c = changed-not _ _ _ _ (c .before .take-refusal .ensures) (c .if1 .taken)
 
 entry-requires : tie.Need-entry-requires
 entry-requires c κs = search needs
