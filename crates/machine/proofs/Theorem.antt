@@ -102,8 +102,8 @@ module _ (s : List ℕ) (ok : sheetOk s ≡ true) where
 
 -- Demand 3, whole. Load any sheet into any arrays; where that is not declined, make any list of at most 2^40 calls, refused ones, damaged books,
 -- NaNs and outputs of every length included: the keys are the loaded ones with the standing edits made in order and then, while a drag is open, its last
--- accepted request; drag, counts, selection, playing, preview and frame are the plain machine's, standing is the standing list's length, accepted + redone = undone + standing, reach is at most 128,
--- and every answer with every output is the machine's, a tick's next name too.
+-- accepted request; drag, counts, selection, playing, preview and frame are the plain machine's, standing is the standing list's length, accepted + redone
+-- = undone + standing, reach is at most 128, and every answer with every output is the machine's, a tick's next name too.
 pub standing-edits-decide : (s : List ℕ) (arrays : Keys) → loadedOf s arrays .refusal ≡ 0 → (cs : List Call) → Each HeldCall cs → length cs ≤ 2 ^ 40
     → Agree s (last (stepP s) cs (record { player = loadedOf s arrays .player; keys = loadedOf s arrays .keys })) (last (stepM s) cs (freshM (loadedOf s arrays .keys)))
     × (answers (stepP s) cs (record { player = loadedOf s arrays .player; keys = loadedOf s arrays .keys }) ≡ answers (stepM s) cs (freshM (loadedOf s arrays .keys)))

@@ -1,4 +1,4 @@
--- What a drag's calls may count on where nothing is declined, and what each gives on each side of its refusal. Assumes nothing.
+-- What a drag's calls may count on where nothing is declined, and what each gives then. Assumes nothing.
 use Prim.Native.Nat.{ℕ}
 use mathlib.Core.Path.{_≡_, sym, _∙_}
 use mathlib.Core.Bool.{true}

@@ -1,4 +1,5 @@
--- What follows from an edit's refusal, and what `editOf` is on each side of it. Assumes nothing.
+-- What an edit may count on where nothing is declined, as does any call that changes a key, and what it gives then; and rows 6, 15 and 7 behind the rows that
+-- calls share. Assumes nothing.
 use Prim.Native.Nat.{ℕ, _<_}
 use mathlib.Core.Path.{_≡_, sym, _∙_}
 use mathlib.Core.Bool.{Bool, true}

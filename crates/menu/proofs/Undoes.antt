@@ -1,4 +1,4 @@
--- What follows from the refusal of an undo or a redo, and what `takeOf` is on each side of it. Assumes nothing.
+-- What an undo and a redo may count on where nothing is declined, and what they give then. Assumes nothing.
 use Prim.Native.Nat.{ℕ}
 use mathlib.Core.Path.{_≡_, sym, _∙_}
 use mathlib.Core.Bool.{Bool, true, false, not}
