@@ -1,6 +1,9 @@
 // Which channel a target addresses, by its family, its raw number and its layer.
 use crate::Family;
 use crate::Reached;
+use crate::corner_colours::PANE_ALPHA;
+use crate::corner_colours::corner_channel;
+use crate::corner_colours::corner_colour;
 use laws::Found;
 use sheet::Target;
 ghost use mathlib.Core.Path.{_≡_};
@@ -19,8 +22,6 @@ pub const MATERIAL_CHANNELS: usize = 30;
 pub const VISIBLE: usize = 10;
 
 pub const ALPHA: usize = 11;
-
-const CORNER_COLOURS: usize = 12;
 
 // How many layers a material has, each with a texture slot, and the first slot's channel.
 pub const MATERIAL_LAYERS: usize = 3;
@@ -80,10 +81,10 @@ pub fn pane_channel(f: Family, raw: usize) -> Found
         Family::Visibility => Found::At(VISIBLE),
         Family::VertexColor => {
             let i = listed(17, raw);
-            if i == 16 {
+            if i == PANE_ALPHA {
                 Found::At(ALPHA)
             } else {
-                Found::At(CORNER_COLOURS + i)
+                Found::At(corner_channel(corner_colour(i)))
             }
         }
         _ => Found::Nothing,

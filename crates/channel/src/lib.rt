@@ -1,5 +1,6 @@
 // Which channel of a book a target addresses (document 01, "Channels").
 mod address;
+mod corner_colours;
 mod place;
 mod reach;
 
@@ -15,6 +16,7 @@ pub use address::of_pane;
 pub use address::pane_channel;
 pub use address::row_channel;
 pub use address::slot_channel;
+pub use corner_colours::CornerColour;
 pub use place::Place;
 pub use place::hits;
 pub use place::place_of;

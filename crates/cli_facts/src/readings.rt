@@ -4,6 +4,7 @@ use crate::lead::say_lead;
 use crate::row::SLOTS;
 use crate::row::say_row;
 use crate::row::slot_of;
+use channel::VISIBLE;
 use cli_printed::MATERIAL_CHANNELS;
 use cli_printed::PANE_CHANNELS;
 use cli_printed::say;
@@ -14,9 +15,7 @@ ghost use lib.ListN.{length};
 ghost use Rattle.book.specs.Checked.{CheckedBook};
 ghost use Rattle.book.specs.Sizes.{paneCount, materialCount};
 
-// Channels of a pane and of a material that are no plain numbers, textures apart.
-const VISIBLE: usize = 10;
-
+// Of a material's channels, textures apart, those from here on are no plain numbers.
 const FIRST_COLOUR: usize = 22;
 
 // Whether the channel is overridden.

@@ -1,7 +1,8 @@
--- Each arm is its family's channels of a pane; the arm of every other family addresses nothing.
-use Prim.Native.Nat.{ℕ}
+-- Each arm is its family's channels of a pane, a corner colour's by name the one that it has by number; the arm of every other family addresses nothing.
+use Prim.Native.Nat.{ℕ, _<_}
 use mathlib.Core.List.{List, [], _∷_}
 use mathlib.Core.Path.{_≡_, refl, sym, _∙_}
+use native.Mathlib.Omega.{arith}
 use borrow.Author.Tests.{eq-eqb, ne-eqb}
 use denote.Enum.Declared.{tagOf}
 use types.Run.{OneOf, miss}
@@ -10,6 +11,7 @@ use Rattle.channel.specs.declared.Family.{Family}
 use Rattle.channel.specs.declared.Family.the-variants.{PaneSrt, Visibility, VertexColor, TextureSrt, TexturePattern, IndirectSrt, AlphaCompare, MaterialColor, Other}
 use Rattle.channel.proofs.Family.{the-type}
 use Rattle.channel.specs.Channel.{paneChannel}
+use Rattle.channel.specs.CornerColours.{paneAlpha, corner-by-number}
 use borrow.Author.Needs.{needs}
 use Rattle.channel.proofs.address.pane_channel.Statement.{statement}
 use Rattle.channel.proofs.address.pane_channel.Tie as tie
@@ -45,8 +47,11 @@ enum-told-3 c = search needs
 listed-requires-2 : tie.Need-listed-requires-2
 listed-requires-2 c κs = search needs
 
-add-t8 : tie.Need-add-t8
-add-t8 c = search needs
+corner-colour-requires : tie.Need-corner-colour-requires
+corner-colour-requires c κs = search needs
+
+corner-channel-requires : tie.Need-corner-channel-requires
+corner-channel-requires c κs = search needs
 
 returns : tie.Need-returns
 unfolding paneChannel
@@ -62,7 +67,11 @@ returns-3 c = rw (c .before .before .enum-told3 .given .1, eq-eqb _ _ (sym (c .b
 
 returns-4 : tie.Need-returns-4
 unfolding paneChannel
-returns-4 c = rw (c .before .before .enum-told3 .given .1, ← c .before .listed2 .ensures .0, ne-eqb _ _ (c .if1 .left))
+returns-4 c =
+    let b = c .before .before in
+    let below : b .before .listed2 .result < paneAlpha = omega (arith, b .before .listed2 .ensures .1, b .if1 .left) in
+    rw (b .before .before .enum-told3 .given .1, ← b .before .listed2 .ensures .0, ne-eqb _ _ (b .if1 .left))
+    (rw (c .corner-channel .ensures, c .before .corner-colour .ensures, corner-by-number _ below))
 
 returns-5 : tie.Need-returns-5
 returns-5 c = none _ _ (c .match .keys4)
@@ -76,7 +85,8 @@ pane-channel-spec =
     enum-told-2
     enum-told-3
     listed-requires-2
-    add-t8
+    corner-colour-requires
+    corner-channel-requires
     returns
     returns-2
     returns-3
