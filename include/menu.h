@@ -50,6 +50,71 @@ enum {
     MENU_MATERIAL_CHANNELS = 30 /* 3 layers of an SRT, 3 textures, indirect rotation and scales, alpha reference, 8 colours */
 };
 
+/* ---- channels: the names of the Rust's targets.rs, in its order; docs/FORMAT.md has each one's code and raw number */
+enum menu_pane_channel {
+    MENU_PANE_TRANSLATE_X = 0,
+    MENU_PANE_TRANSLATE_Y = 1,
+    MENU_PANE_TRANSLATE_Z = 2,
+    MENU_PANE_ROTATE_X = 3,
+    MENU_PANE_ROTATE_Y = 4,
+    MENU_PANE_ROTATE_Z = 5,
+    MENU_PANE_SCALE_X = 6,
+    MENU_PANE_SCALE_Y = 7,
+    MENU_PANE_SIZE_X = 8,
+    MENU_PANE_SIZE_Y = 9,
+    MENU_PANE_VISIBLE = 10,
+    MENU_PANE_ALPHA = 11,
+    MENU_PANE_LEFT_TOP_RED = 12,
+    MENU_PANE_LEFT_TOP_GREEN = 13,
+    MENU_PANE_LEFT_TOP_BLUE = 14,
+    MENU_PANE_LEFT_TOP_ALPHA = 15,
+    MENU_PANE_RIGHT_TOP_RED = 16,
+    MENU_PANE_RIGHT_TOP_GREEN = 17,
+    MENU_PANE_RIGHT_TOP_BLUE = 18,
+    MENU_PANE_RIGHT_TOP_ALPHA = 19,
+    MENU_PANE_LEFT_BOTTOM_RED = 20,
+    MENU_PANE_LEFT_BOTTOM_GREEN = 21,
+    MENU_PANE_LEFT_BOTTOM_BLUE = 22,
+    MENU_PANE_LEFT_BOTTOM_ALPHA = 23,
+    MENU_PANE_RIGHT_BOTTOM_RED = 24,
+    MENU_PANE_RIGHT_BOTTOM_GREEN = 25,
+    MENU_PANE_RIGHT_BOTTOM_BLUE = 26,
+    MENU_PANE_RIGHT_BOTTOM_ALPHA = 27
+};
+
+enum menu_material_channel {
+    MENU_MATERIAL_LAYER_0_TRANSLATE_U = 0,
+    MENU_MATERIAL_LAYER_0_TRANSLATE_V = 1,
+    MENU_MATERIAL_LAYER_0_ROTATE = 2,
+    MENU_MATERIAL_LAYER_0_SCALE_U = 3,
+    MENU_MATERIAL_LAYER_0_SCALE_V = 4,
+    MENU_MATERIAL_LAYER_1_TRANSLATE_U = 5,
+    MENU_MATERIAL_LAYER_1_TRANSLATE_V = 6,
+    MENU_MATERIAL_LAYER_1_ROTATE = 7,
+    MENU_MATERIAL_LAYER_1_SCALE_U = 8,
+    MENU_MATERIAL_LAYER_1_SCALE_V = 9,
+    MENU_MATERIAL_LAYER_2_TRANSLATE_U = 10,
+    MENU_MATERIAL_LAYER_2_TRANSLATE_V = 11,
+    MENU_MATERIAL_LAYER_2_ROTATE = 12,
+    MENU_MATERIAL_LAYER_2_SCALE_U = 13,
+    MENU_MATERIAL_LAYER_2_SCALE_V = 14,
+    MENU_MATERIAL_TEXTURE_0 = 15,
+    MENU_MATERIAL_TEXTURE_1 = 16,
+    MENU_MATERIAL_TEXTURE_2 = 17,
+    MENU_MATERIAL_INDIRECT_ROTATE = 18,
+    MENU_MATERIAL_INDIRECT_SCALE_U = 19,
+    MENU_MATERIAL_INDIRECT_SCALE_V = 20,
+    MENU_MATERIAL_ALPHA_REFERENCE = 21,
+    MENU_MATERIAL_BLACK_RED = 22,
+    MENU_MATERIAL_BLACK_GREEN = 23,
+    MENU_MATERIAL_BLACK_BLUE = 24,
+    MENU_MATERIAL_BLACK_ALPHA = 25,
+    MENU_MATERIAL_WHITE_RED = 26,
+    MENU_MATERIAL_WHITE_GREEN = 27,
+    MENU_MATERIAL_WHITE_BLUE = 28,
+    MENU_MATERIAL_WHITE_ALPHA = 29
+};
+
 /* what a tick came to */
 enum menu_tick_answer { MENU_IDLE = 0, MENU_RUNNING = 1, MENU_ENDED = 2, MENU_NEXT = 3 };
 
@@ -233,20 +298,21 @@ menu_played menu_abandon_drag(menu_player player, const uint8_t *sheet, size_t s
 
 /* ---- readings: what the active animation makes of the book's panes and materials */
 
-/* One of the MENU_PANE_CHANNELS channels of a pane. Refusals 1 to 5, 7. */
+/* One channel of a pane, an enum menu_pane_channel. Refusals 1 to 5, 7. */
 menu_read_one menu_read_pane(menu_player player, const uint8_t *sheet, size_t sheet_len, const uint8_t *book,
                              size_t book_len, const float *frames, size_t frames_len, const float *values,
                              size_t values_len, const float *slopes, size_t slopes_len, uint16_t pane,
                              uint16_t channel);
 
-/* One of the MENU_MATERIAL_CHANNELS channels of a material. Refusals 1 to 5, 7. */
+/* One channel of a material, an enum menu_material_channel. Refusals 1 to 5, 7. */
 menu_read_one menu_read_material(menu_player player, const uint8_t *sheet, size_t sheet_len, const uint8_t *book,
                                  size_t book_len, const float *frames, size_t frames_len, const float *values,
                                  size_t values_len, const float *slopes, size_t slopes_len, uint16_t material,
                                  uint16_t channel);
 
 /* Every channel, panes first: a mark (0 or 1) and a number (0 where unmarked). Both outputs are MENU_PANE_CHANNELS a
- * pane and MENU_MATERIAL_CHANNELS a material long. Refusals 1 to 5, 13. */
+ * pane and MENU_MATERIAL_CHANNELS a material long: channel c of pane p is at p * MENU_PANE_CHANNELS + c. Refusals 1 to 5,
+ * 13. */
 uint8_t menu_read_all(menu_player player, const uint8_t *sheet, size_t sheet_len, const uint8_t *book, size_t book_len,
                       const float *frames, size_t frames_len, const float *values, size_t values_len,
                       const float *slopes, size_t slopes_len, uint8_t *marks, size_t marks_len, float *numbers,

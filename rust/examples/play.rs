@@ -5,38 +5,24 @@
 use std::error::Error;
 use std::{env, fs};
 
-use dovebolt::{Channels, Player, Tick, pane_count};
+use dovebolt::{Channels, MaterialChannel, PaneChannel, Player, Tick, material_count, pane_count};
 
 /// A looping animation never ends: this many frames of it are enough to see.
 const MOST: usize = 100;
 
-const PANE_CHANNELS: usize = 28;
-const MATERIAL_CHANNELS: usize = 30;
-
-/// Where a channel of a whole reading is: the panes come first.
-fn place(panes: usize, channel: usize) -> String {
-    match channel.checked_sub(panes * PANE_CHANNELS) {
-        None => format!(
-            "pane {} channel {}",
-            channel / PANE_CHANNELS,
-            channel % PANE_CHANNELS
-        ),
-        Some(c) => format!(
-            "material {} channel {}",
-            c / MATERIAL_CHANNELS,
-            c % MATERIAL_CHANNELS
-        ),
-    }
-}
-
-/// The channels whose number is not what it was.
-fn print_changes(panes: usize, before: Option<&Channels>, now: &Channels) {
-    for channel in 0..now.marks.len() {
-        let number = now.get(channel);
-        if number != before.and_then(|b| b.get(channel)) {
+/// The channels whose number is not what it was, by pane or material and by name.
+fn print_changes(book: &[u8], before: Option<&Channels>, now: &Channels) {
+    let panes = (0..pane_count(book) as u16)
+        .flat_map(|pane| PaneChannel::ALL.map(|c| (c.place(pane), format!("pane {pane} {c}"))));
+    let materials = (0..material_count(book) as u16).flat_map(|material| {
+        MaterialChannel::ALL.map(|c| (c.place(book, material), format!("material {material} {c}")))
+    });
+    for (place, name) in panes.chain(materials) {
+        let number = now.get(place);
+        if number != before.and_then(|b| b.get(place)) {
             match number {
-                Some(x) => println!("    {}: {x}", place(panes, channel)),
-                None => println!("    {}: no override", place(panes, channel)),
+                Some(x) => println!("    {name}: {x}"),
+                None => println!("    {name}: no override"),
             }
         }
     }
@@ -56,7 +42,7 @@ fn main() -> Result<(), Box<dyn Error>> {
     for _ in 0..MOST {
         println!("frame {}: {tick:?}", player.frame());
         let now = player.read_all(&sheet, &book, &keys)?;
-        print_changes(pane_count(&book), before.as_ref(), &now);
+        print_changes(&book, before.as_ref(), &now);
         before = Some(now);
         if tick != Tick::Running {
             break;

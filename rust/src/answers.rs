@@ -31,12 +31,12 @@ pub enum Tick {
 /// What one channel reads.
 ///
 /// ```
-/// use dovebolt::{Player, Reading, example};
+/// use dovebolt::{PaneChannel, Player, Reading, example};
 ///
 /// let (sheet, book) = (example::sheet(), example::book());
 /// let (mut player, keys) = Player::load(&sheet)?;
 /// player.pose(&sheet, Some(0), 4.0)?;
-/// match player.read_pane(&sheet, &book, &keys, 1, 0)? {
+/// match player.read_pane(&sheet, &book, &keys, 1, PaneChannel::TranslateX)? {
 ///     Reading::Number(x) => assert_eq!(x, 8.0),
 ///     other => panic!("{other:?}"),
 /// }
@@ -57,6 +57,7 @@ pub enum Reading {
 }
 
 /// The whole reading of a book: a mark (0 or 1) and a number for each channel, panes first.
+/// [`PaneChannel::place`](crate::PaneChannel::place) and [`MaterialChannel::place`](crate::MaterialChannel::place) say where.
 ///
 /// ```
 /// let all = dovebolt::Channels { marks: vec![1, 0], numbers: vec![2.5, 0.0] };
@@ -70,15 +71,15 @@ pub struct Channels {
 }
 
 impl Channels {
-    /// The number of a channel that is overridden.
+    /// The number of a channel that is overridden, by its place.
     ///
     /// ```
     /// let all = dovebolt::Channels { marks: vec![1, 0], numbers: vec![0.0, 0.0] };
     /// assert_eq!((all.get(0), all.get(1), all.get(2)), (Some(0.0), None, None));
     /// ```
-    pub fn get(&self, channel: usize) -> Option<f32> {
-        let mark = *self.marks.get(channel)?;
-        (mark == 1).then(|| self.numbers[channel])
+    pub fn get(&self, place: usize) -> Option<f32> {
+        let mark = *self.marks.get(place)?;
+        (mark == 1).then(|| self.numbers[place])
     }
 }
 

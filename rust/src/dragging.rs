@@ -104,7 +104,7 @@ impl Player {
     /// Nothing is counted, and what can be undone or redone stays. Refusals 1, 3 to 5, 15, 8, 9.
     ///
     /// ```
-    /// use dovebolt::{Player, Reading, Refusal, example};
+    /// use dovebolt::{PaneChannel, Player, Reading, Refusal, example};
     ///
     /// let (sheet, book) = (example::sheet(), example::book());
     /// let (mut player, mut keys) = Player::load(&sheet)?;
@@ -114,7 +114,8 @@ impl Player {
     /// for step in 0..40 {
     ///     let value = step as f32;
     ///     player.drag(&sheet, &mut keys, 6.0, value)?;
-    ///     assert_eq!(player.read_pane(&sheet, &book, &keys, 1, 0)?, Reading::Number(value));
+    ///     let translate_x = player.read_pane(&sheet, &book, &keys, 1, PaneChannel::TranslateX)?;
+    ///     assert_eq!(translate_x, Reading::Number(value));
     /// }
     /// assert_eq!(player.reach(), 0);
     /// assert_eq!(player.drag(&sheet, &mut keys, f32::NAN, 0.0), Err(Refusal::NotFinite));

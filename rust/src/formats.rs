@@ -3,12 +3,9 @@
 use std::borrow::Cow;
 use std::fmt;
 
+use crate::channels::{MaterialChannel, PaneChannel};
 use crate::raw;
 use crate::refusal::{Refusal, checked};
-
-/// Channels of a pane, and of a material.
-const PANE_CHANNELS: usize = 28;
-const MATERIAL_CHANNELS: usize = 30;
 
 /// The u16 at `at`, or 0 past the end.
 fn u16_at(bytes: &[u8], at: usize) -> usize {
@@ -36,13 +33,22 @@ pub fn pane_count(book: &[u8]) -> usize {
     u16_at(book, 0)
 }
 
+/// How many materials the book says that it has. The book is not checked here.
+///
+/// ```
+/// assert_eq!(dovebolt::material_count(&dovebolt::example::book()), 1);
+/// ```
+pub fn material_count(book: &[u8]) -> usize {
+    u16_at(book, 2)
+}
+
 /// How many channels a whole reading of this book has. The book is not checked here.
 ///
 /// ```
 /// assert_eq!(dovebolt::channel_count(&dovebolt::example::book()), 28 * 2 + 30);
 /// ```
 pub fn channel_count(book: &[u8]) -> usize {
-    pane_count(book) * PANE_CHANNELS + u16_at(book, 2) * MATERIAL_CHANNELS
+    pane_count(book) * PaneChannel::ALL.len() + material_count(book) * MaterialChannel::ALL.len()
 }
 
 /// A name of a sheet or a book: 24 bytes, of which zero bytes at the end don't count.

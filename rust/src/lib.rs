@@ -42,6 +42,7 @@
 //! ```
 
 mod answers;
+mod channels;
 mod dragging;
 pub mod example;
 mod formats;
@@ -53,8 +54,11 @@ mod refusal;
 mod shapes;
 
 pub use answers::{Cascaded, Channels, Reading, ResolvedPane, Srt, Tick, Transform};
+pub use channels::{MaterialChannel, PaneChannel};
 pub use dragging::Drag;
-pub use formats::{Name, channel_count, key_count, next_name, next_name_into, pane_count};
+pub use formats::{
+    Name, channel_count, key_count, material_count, next_name, next_name_into, pane_count,
+};
 pub use keys::{Key, Keys};
 pub use player::Player;
 pub use raw::{Corners, Vector2f, Vector3f};

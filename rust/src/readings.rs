@@ -1,6 +1,7 @@
 //! The readings: what the active animation makes of a book's panes and materials.
 
 use crate::answers::{Cascaded, Channels, Reading, ResolvedPane, Srt, Transform};
+use crate::channels::{MaterialChannel, PaneChannel};
 use crate::formats::{Name, channel_count, pane_count};
 use crate::keys::Keys;
 use crate::player::Player;
@@ -44,17 +45,17 @@ fn reading_of(answer: raw::ReadOne) -> Result<Reading, Refusal> {
 }
 
 impl Player {
-    /// One of the 28 channels of a pane. Refusals 1 to 5, 7.
+    /// One channel of a pane. Refusals 1 to 5, 7.
     ///
     /// ```
-    /// use dovebolt::{Player, Reading, example};
+    /// use dovebolt::{PaneChannel, Player, Reading, example};
     ///
     /// let (sheet, book) = (example::sheet(), example::book());
     /// let (mut player, keys) = Player::load(&sheet)?;
     /// player.pose(&sheet, Some(0), 4.0)?;
-    /// let translate_x = player.read_pane(&sheet, &book, &keys, 1, 0)?;
+    /// let translate_x = player.read_pane(&sheet, &book, &keys, 1, PaneChannel::TranslateX)?;
     /// assert_eq!(translate_x, Reading::Number(8.0));
-    /// let visible = player.read_pane(&sheet, &book, &keys, 1, 10)?;
+    /// let visible = player.read_pane(&sheet, &book, &keys, 1, PaneChannel::Visible)?;
     /// assert_eq!(visible, Reading::Shown(true));
     /// # Ok::<(), dovebolt::Refusal>(())
     /// ```
@@ -64,23 +65,24 @@ impl Player {
         book: &[u8],
         keys: &Keys,
         pane: u16,
-        channel: u16,
+        channel: PaneChannel,
     ) -> Result<Reading, Refusal> {
+        let channel = channel.number();
         let answer = read!(raw::menu_read_pane, self, sheet, book, keys, pane, channel);
         reading_of(answer)
     }
 
-    /// One of the 30 channels of a material. Refusals 1 to 5, 7.
+    /// One channel of a material. Refusals 1 to 5, 7.
     ///
     /// ```
-    /// use dovebolt::{Player, Reading, example};
+    /// use dovebolt::{MaterialChannel, Player, Reading, example};
     ///
     /// let (sheet, book) = (example::sheet(), example::book());
     /// let (mut player, keys) = Player::load(&sheet)?;
     /// player.pose(&sheet, Some(0), 4.0)?;
-    /// let texture = player.read_material(&sheet, &book, &keys, 0, 15)?;
+    /// let texture = player.read_material(&sheet, &book, &keys, 0, MaterialChannel::Texture0)?;
     /// assert_eq!(texture, Reading::Row(1));
-    /// let black_red = player.read_material(&sheet, &book, &keys, 0, 22)?;
+    /// let black_red = player.read_material(&sheet, &book, &keys, 0, MaterialChannel::BlackRed)?;
     /// assert_eq!(black_red, Reading::Level(200));
     /// # Ok::<(), dovebolt::Refusal>(())
     /// ```
@@ -90,8 +92,9 @@ impl Player {
         book: &[u8],
         keys: &Keys,
         material: u16,
-        channel: u16,
+        channel: MaterialChannel,
     ) -> Result<Reading, Refusal> {
+        let channel = channel.number();
         let answer = read!(
             raw::menu_read_material,
             self,
@@ -107,14 +110,14 @@ impl Player {
     /// Every channel of the book. Refusals 1 to 5.
     ///
     /// ```
-    /// use dovebolt::{Player, example};
+    /// use dovebolt::{PaneChannel, Player, example};
     ///
     /// let (sheet, book) = (example::sheet(), example::book());
     /// let (mut player, keys) = Player::load(&sheet)?;
     /// player.pose(&sheet, Some(0), 4.0)?;
     /// let all = player.read_all(&sheet, &book, &keys)?;
-    /// assert_eq!(all.get(28), Some(8.0));
-    /// assert_eq!(all.get(29), None);
+    /// assert_eq!(all.get(PaneChannel::TranslateX.place(1)), Some(8.0));
+    /// assert_eq!(all.get(PaneChannel::TranslateY.place(1)), None);
     /// # Ok::<(), dovebolt::Refusal>(())
     /// ```
     pub fn read_all(&self, sheet: &[u8], book: &[u8], keys: &Keys) -> Result<Channels, Refusal> {

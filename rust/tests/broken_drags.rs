@@ -1,7 +1,7 @@
 //! Row 5 of an open drag, on players and keys that were changed by hand: the row that it names, and its starting key.
 
 use dovebolt::raw::Drag;
-use dovebolt::{Keys, Player, Refusal, example};
+use dovebolt::{Keys, MaterialChannel, PaneChannel, Player, Refusal, example};
 
 type Call = fn(&mut Player, &[u8], &[u8], &mut Keys) -> Result<(), Refusal>;
 
@@ -27,9 +27,12 @@ const WITH_KEYS: [(&str, Call); 16] = [
     ("drop", |p, s, _, k| p.drop_drag(s, k)),
     ("abandon", |p, s, _, k| p.abandon_drag(s, k)),
     ("save", |p, s, _, k| p.save_into(s, k, &mut [])),
-    ("pane", |p, s, b, k| p.read_pane(s, b, k, 9, 99).map(drop)),
+    ("pane", |p, s, b, k| {
+        p.read_pane(s, b, k, 9, PaneChannel::Alpha).map(drop)
+    }),
     ("material", |p, s, b, k| {
-        p.read_material(s, b, k, 9, 99).map(drop)
+        p.read_material(s, b, k, 9, MaterialChannel::Texture0)
+            .map(drop)
     }),
     ("whole", |p, s, b, k| {
         p.read_all_into(s, b, k, &mut [], &mut [])

@@ -4,7 +4,7 @@ mod common;
 
 use common::{KEY, PLACE, TRACK, bits, posed};
 use dovebolt::raw::Drag;
-use dovebolt::{Keys, Player, Reading, Refusal, example};
+use dovebolt::{Keys, MaterialChannel, PaneChannel, Player, Reading, Refusal, example};
 
 /// Animation 0's frame in these tests: after its Step curves' second keys and before its Hermite curve's.
 const FRAME: f32 = 6.0;
@@ -241,7 +241,7 @@ const SEEN: [Seen; 6] = [
         f32::from(p.cascade(s, b, k).unwrap()[1].visible)
     }),
     Seen(1, 1, [7.0, 1.0], [1.0, 0.0], |p, s, b, k| {
-        match p.read_material(s, b, k, 0, 15) {
+        match p.read_material(s, b, k, 0, MaterialChannel::Texture0) {
             Ok(Reading::Row(row)) => f32::from(row),
             other => panic!("{other:?}"),
         }
@@ -251,10 +251,11 @@ const SEEN: [Seen; 6] = [
         p.texture_name(s, b, k, 0, 0).unwrap().bytes().len() as f32
     }),
     Seen(2, 0, [7.0, 99.6], [200.0, 100.0], |p, s, b, k| {
-        p.read_all(s, b, k).unwrap().get(2 * 28 + 22).unwrap()
+        let place = MaterialChannel::BlackRed.place(b, 0);
+        p.read_all(s, b, k).unwrap().get(place).unwrap()
     }),
     Seen(3, 1, [2.0, -7.0], [13.5, -7.0], |p, s, b, k| {
-        match p.read_pane(s, b, k, 1, 0) {
+        match p.read_pane(s, b, k, 1, PaneChannel::TranslateX) {
             Ok(Reading::Number(x)) => x,
             other => panic!("{other:?}"),
         }

@@ -5,8 +5,8 @@ use std::mem::{align_of, offset_of, size_of};
 
 use dovebolt::raw::{self, Journal};
 use dovebolt::{
-    Corners, Drag, Key, Keys, Player, Reading, Refusal, Srt, Tick, Transform, Vector2f, Vector3f,
-    corners, example, rotate_point, translate,
+    Corners, Drag, Key, Keys, MaterialChannel, PaneChannel, Player, Reading, Refusal, Srt, Tick,
+    Transform, Vector2f, Vector3f, corners, example, rotate_point, translate,
 };
 
 /// The Hermite track of animation 1, and its key of frame 60 and value 51.
@@ -270,16 +270,14 @@ fn readings() {
     player.pose(&sheet, Some(0), 4.0).unwrap();
     let pane = |channel| player.read_pane(&sheet, &book, &keys, 1, channel);
     let material = |channel| player.read_material(&sheet, &book, &keys, 0, channel);
-    assert_eq!(pane(0), Ok(Reading::Number(8.0)));
-    assert_eq!(pane(1), Ok(Reading::Nothing));
-    assert_eq!(pane(10), Ok(Reading::Shown(true)));
-    assert_eq!(pane(28), Err(Refusal::NoSuch));
-    assert_eq!(material(15), Ok(Reading::Row(1)));
-    assert_eq!(material(22), Ok(Reading::Level(200)));
-    assert_eq!(material(30), Err(Refusal::NoSuch));
+    assert_eq!(pane(PaneChannel::TranslateX), Ok(Reading::Number(8.0)));
+    assert_eq!(pane(PaneChannel::TranslateY), Ok(Reading::Nothing));
+    assert_eq!(pane(PaneChannel::Visible), Ok(Reading::Shown(true)));
+    assert_eq!(material(MaterialChannel::Texture0), Ok(Reading::Row(1)));
+    assert_eq!(material(MaterialChannel::BlackRed), Ok(Reading::Level(200)));
     player.pose(&sheet, Some(0), 3.0).unwrap();
     assert_eq!(
-        player.read_pane(&sheet, &book, &keys, 1, 10),
+        player.read_pane(&sheet, &book, &keys, 1, PaneChannel::Visible),
         Ok(Reading::Shown(false))
     );
 }
@@ -295,7 +293,12 @@ fn whole_reading() {
     let marked: Vec<(usize, f32)> = (0..86).filter_map(|c| all.get(c).map(|x| (c, x))).collect();
     assert_eq!(
         marked,
-        [(28, 8.0), (38, 1.0), (56 + 15, 1.0), (56 + 22, 200.0)]
+        [
+            (PaneChannel::TranslateX.place(1), 8.0),
+            (PaneChannel::Visible.place(1), 1.0),
+            (MaterialChannel::Texture0.place(&book, 0), 1.0),
+            (MaterialChannel::BlackRed.place(&book, 0), 200.0)
+        ]
     );
 }
 

@@ -41,7 +41,8 @@ fn play() {
     let lines: Vec<&str> = text.lines().collect();
     assert_eq!(lines[0], "frame 0: Running");
     assert!(lines.contains(&"frame 4: Running"));
-    assert!(lines.contains(&"    pane 1 channel 0: 8"));
+    assert!(lines.contains(&"    pane 1 translate_x: 8"));
+    assert!(lines.contains(&"    material 0 black_red: 200"));
     assert_eq!(lines.last(), Some(&"next: Idle"));
 
     let declined = program("play").args(&files).arg("2").output().unwrap();

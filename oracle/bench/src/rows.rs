@@ -5,7 +5,7 @@ use crate::menus::{FRAME, Menu};
 use crate::timing::{Both, Spread, alone, side_by_side};
 use cases::geometry::uvs::{texture_srt, texture_uv};
 use compare::probe::readings::Tables;
-use dovebolt::{Player, Vector2f, Vector3f};
+use dovebolt::{PaneChannel, Player, Vector2f, Vector3f};
 use published::anim_state::AnimationState;
 use published::bflyt::pane::{HorizontalPosition, VerticalPosition};
 use published::pane_tree::{Corners, PaneNode};
@@ -16,9 +16,9 @@ use std::hint::black_box;
 /// Frames read after one check; the check's share of each is a thousandth.
 const FRAMES: usize = 1000;
 
-/// No pane has this channel, so that a reading of it is declined with 7 after
-/// rows 1 to 5 have passed.
-const NO_CHANNEL: u16 = 28;
+/// No book has this pane, so that a reading of it is declined with 7 after rows 1
+/// to 5 have passed.
+const NO_PANE: u16 = 64;
 
 /// A tick's seconds and frames a second.
 const TICK: (f32, f32) = (0.016, 30.0);
@@ -30,7 +30,10 @@ fn evaluate(menu: &Menu) -> AnimationState {
 pub fn checks(menu: &Menu) -> Spread {
     let player = menu.posed();
     alone(&mut || {
-        let answer = player.read_pane(&menu.sheet, &menu.book, &menu.keys, 0, NO_CHANNEL);
+        let Menu {
+            sheet, book, keys, ..
+        } = menu;
+        let answer = player.read_pane(sheet, book, keys, NO_PANE, PaneChannel::Alpha);
         assert!(black_box(answer).is_err());
     })
 }
@@ -65,7 +68,10 @@ pub fn single_reading(menu: &Menu) -> Both {
     let player = menu.posed();
     side_by_side(
         &mut || {
-            let answer = player.read_pane(&menu.sheet, &menu.book, &menu.keys, 0, 0);
+            let Menu {
+                sheet, book, keys, ..
+            } = menu;
+            let answer = player.read_pane(sheet, book, keys, 0, PaneChannel::TranslateX);
             black_box(answer).expect("a reading");
         },
         &mut || drop(black_box(evaluate(menu))),

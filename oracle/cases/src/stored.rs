@@ -1,14 +1,15 @@
 //! Every file that is stored in crates/: the samples that the program `vectors`
-//! replays, and the lists of calls of `cli_lists` with what it must write. The
-//! seeds stand here, so the same bytes come out each time.
+//! replays, the lists of calls of `cli_lists` and the sheet of `channel_names`,
+//! each with what the program must write. The seeds stand here, so the same
+//! bytes come out each time.
 
-use crate::{calls, curves, geometry, sheets};
+use crate::{calls, curves, geometry, reached, sheets};
 
 /// A file by its path in crates/.
 pub type File = (String, Vec<u8>);
 
 pub fn files() -> Vec<File> {
-    [samples(), wrong(), damaged(), lists()].concat()
+    [samples(), wrong(), damaged(), lists(), reached::files()].concat()
 }
 
 fn numbered(name: &str, files: Vec<Vec<u8>>) -> impl Iterator<Item = File> {

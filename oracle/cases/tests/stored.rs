@@ -16,7 +16,7 @@ fn stored_files_are_what_store_writes() {
         assert!(stored == *bytes, "{name} is not what `store` writes");
     }
     let made: BTreeSet<PathBuf> = files.iter().map(|(name, _)| crates().join(name)).collect();
-    for folder in ["vectors/data", "cli_lists/data"] {
+    for folder in ["vectors/data", "cli_lists/data", "channel_names/data"] {
         for entry in std::fs::read_dir(crates().join(folder)).unwrap() {
             let path = entry.unwrap().path();
             assert!(made.contains(&path), "`store` doesn't write {path:?}");

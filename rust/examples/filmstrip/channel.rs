@@ -1,111 +1,88 @@
-//! Which channel a track addresses, by name and number, and what its keys' values are in the channel's unit.
+//! Which channel a track addresses, and what its keys' values are in the channel's unit.
+
+use dovebolt::{MaterialChannel, PaneChannel};
 
 use crate::rows::{Menu, Track};
 
 #[derive(PartialEq)]
 pub enum Place {
-    Pane(u16),
-    Material(u16),
+    Pane(u16, PaneChannel),
+    Material(u16, MaterialChannel),
 }
 
 pub struct Channel {
     pub place: Place,
-    pub number: u16,
-    pub name: String,
     /// A key's value times this is the reading.
     pub unit: f32,
 }
 
 impl Channel {
     pub fn same(&self, other: &Channel) -> bool {
-        self.place == other.place && self.number == other.number
+        self.place == other.place
+    }
+
+    pub fn name(&self) -> &'static str {
+        match self.place {
+            Place::Pane(_, channel) => channel.name(),
+            Place::Material(_, channel) => channel.name(),
+        }
     }
 }
 
-const SRT: [&str; 10] = [
-    "translate x",
-    "translate y",
-    "translate z",
-    "rotate x",
-    "rotate y",
-    "rotate z",
-    "scale x",
-    "scale y",
-    "size x",
-    "size y",
-];
-const CORNERS: [&str; 4] = ["left top", "right top", "left bottom", "right bottom"];
-const COLOURS: [&str; 4] = ["red", "green", "blue", "alpha"];
-const LAYER: [&str; 5] = ["translate u", "translate v", "rotate", "scale u", "scale v"];
-const INDIRECT: [&str; 3] = ["indirect rotate", "indirect scale u", "indirect scale v"];
-
 /// A raw number that its list doesn't have stands for the first.
-fn listed(raw: u8, count: usize) -> usize {
-    if usize::from(raw) < count {
-        usize::from(raw)
+fn listed(raw: u8, count: u16) -> u16 {
+    if u16::from(raw) < count {
+        u16::from(raw)
     } else {
         0
     }
 }
 
-fn pane_channel(t: &Track) -> Option<(usize, String, f32)> {
+fn pane_channel(t: &Track) -> Option<(PaneChannel, f32)> {
+    use PaneChannel::*;
+    let after = |first: PaneChannel, n: u16| PaneChannel::from_number(first.number() + n);
     match &t.code {
-        b"FLPA" => Some((listed(t.raw, 10), SRT[listed(t.raw, 10)].into(), 1.0)),
-        b"FLVI" => Some((10, "visible".into(), 1.0)),
+        b"FLPA" => Some((after(TranslateX, listed(t.raw, 10))?, 1.0)),
+        b"FLVI" => Some((Visible, 1.0)),
         b"FLVC" => Some(match listed(t.raw, 17) {
-            16 => (11, "alpha".into(), 1.0 / 255.0),
-            n => (
-                12 + n,
-                format!("{} {}", CORNERS[n / 4], COLOURS[n % 4]),
-                1.0 / 255.0,
-            ),
+            16 => (Alpha, 1.0 / 255.0),
+            n => (after(LeftTopRed, n)?, 1.0 / 255.0),
         }),
         _ => None,
     }
 }
 
-fn material_channel(t: &Track) -> Option<(usize, String, f32)> {
-    let layer = usize::from(t.layer);
-    let named = |n: usize, name: String| Some((n, name, 1.0));
+fn material_channel(t: &Track) -> Option<MaterialChannel> {
+    use MaterialChannel::*;
+    let layer = u16::from(t.layer);
+    let after = |first: MaterialChannel, n: u16| MaterialChannel::from_number(first.number() + n);
     match &t.code {
-        b"FLTS" if layer < 3 => {
-            let n = listed(t.raw, 5);
-            named(layer * 5 + n, format!("layer {layer} {}", LAYER[n]))
-        }
-        b"FLTP" if layer < 3 => named(15 + layer, format!("texture of slot {layer}")),
-        b"FLIM" => named(18 + listed(t.raw, 3), INDIRECT[listed(t.raw, 3)].into()),
-        b"FLAC" => named(21, "alpha reference".into()),
-        b"FLMC" => {
-            let n = listed(t.raw, 28);
-            let (place, side) = if n < 4 {
-                (n, "black")
-            } else {
-                (4 + n % 4, "white")
-            };
-            named(22 + place, format!("{side} {}", COLOURS[n % 4]))
-        }
+        b"FLTS" if layer < 3 => after(Layer0TranslateU, layer * 5 + listed(t.raw, 5)),
+        b"FLTP" if layer < 3 => after(Texture0, layer),
+        b"FLIM" => after(IndirectRotate, listed(t.raw, 3)),
+        b"FLAC" => Some(AlphaReference),
+        b"FLMC" => match listed(t.raw, 28) {
+            n if n < 4 => after(BlackRed, n),
+            n => after(WhiteRed, n % 4),
+        },
         _ => None,
     }
 }
 
 /// The channel, if the track addresses one of the book.
 pub fn of(t: &Track, menu: &Menu) -> Option<Channel> {
-    let row = |found: Option<usize>| found.map(|n| n as u16);
-    let (place, (number, name, unit)) = match t.kind {
-        0 | 3 => (
-            Place::Pane(row(menu.panes.iter().position(|p| p.label == t.name))?),
-            pane_channel(t)?,
-        ),
-        1 => (
-            Place::Material(row(menu.materials.iter().position(|m| *m == t.name))?),
-            material_channel(t)?,
-        ),
-        _ => return None,
-    };
-    Some(Channel {
-        place,
-        number: number as u16,
-        name,
-        unit,
-    })
+    match t.kind {
+        0 | 3 => {
+            let row = menu.panes.iter().position(|p| p.label == t.name)?;
+            let (channel, unit) = pane_channel(t)?;
+            let place = Place::Pane(row as u16, channel);
+            Some(Channel { place, unit })
+        }
+        1 => {
+            let row = menu.materials.iter().position(|m| *m == t.name)?;
+            let place = Place::Material(row as u16, material_channel(t)?);
+            Some(Channel { place, unit: 1.0 })
+        }
+        _ => None,
+    }
 }

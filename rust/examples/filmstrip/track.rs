@@ -76,8 +76,8 @@ fn read(
     let (sheet, book, keys) = (&menu.sheet, &menu.book, &menu.keys);
     player.pose(sheet, Some(menu.number), frame)?;
     match channel.place {
-        Place::Pane(row) => player.read_pane(sheet, book, keys, row, channel.number),
-        Place::Material(row) => player.read_material(sheet, book, keys, row, channel.number),
+        Place::Pane(row, channel) => player.read_pane(sheet, book, keys, row, channel),
+        Place::Material(row, channel) => player.read_material(sheet, book, keys, row, channel),
     }
 }
 
@@ -261,7 +261,7 @@ fn heading(menu: &Menu, track: &Track, channel: &Channel, later: Option<u16>) ->
         track.count,
         if track.count == 1 { "key" } else { "keys" }
     );
-    let over = format!("{} · {}", track.name, channel.name);
+    let over = format!("{} · {}", track.name, channel.name());
     svg::text(MARGIN, 42.0, 20.0, svg::INK, " font-weight=\"bold\"", &over)
         + &svg::text(MARGIN, 64.0, 13.0, svg::QUIET, "", &under)
 }

@@ -152,7 +152,7 @@ static void dragging(menu_player player) {
         dragged = menu_drag(dragged.player, sheet, sheet_len, LENT_KEYS, 4, (float)(10 * n));
         CHECK(dragged.refusal == MENU_OK && dragged.player.drag.moved && dragged.player.reach == 1);
         CHECK(frames[PLACE] == 4 && values[PLACE] == 10 * n && slopes[PLACE] == 0.5f);
-        CHECK(menu_read_pane(dragged.player, LENT, 1, 0).number == 10 * n);
+        CHECK(menu_read_pane(dragged.player, LENT, 1, MENU_PANE_TRANSLATE_X).number == 10 * n);
     }
     menu_played dropped = menu_drop_drag(dragged.player, sheet, sheet_len, LENT_KEYS);
     CHECK(dropped.refusal == MENU_OK && same_drag(dropped.player.drag, closed) && values[PLACE] == 30);
@@ -200,21 +200,24 @@ static void saving(menu_player player) {
 }
 
 static void readings(menu_player player) {
-    menu_read_one one = menu_read_pane(player, LENT, 1, 0);
+    menu_read_one one = menu_read_pane(player, LENT, 1, MENU_PANE_TRANSLATE_X);
     CHECK(one.refusal == MENU_OK && one.kind == MENU_NUMBER && one.number == 8);
-    one = menu_read_pane(player, LENT, 1, 10);
+    one = menu_read_pane(player, LENT, 1, MENU_PANE_VISIBLE);
     CHECK(one.kind == MENU_SHOWN && one.number == 1);
-    CHECK(menu_read_pane(player, LENT, 1, 1).kind == MENU_NOTHING);
-    CHECK(menu_read_pane(player, LENT, PANES, 0).refusal == MENU_NO_SUCH);
-    one = menu_read_material(player, LENT, 0, 15);
+    CHECK(menu_read_pane(player, LENT, 1, MENU_PANE_TRANSLATE_Y).kind == MENU_NOTHING);
+    CHECK(menu_read_pane(player, LENT, PANES, MENU_PANE_ALPHA).refusal == MENU_NO_SUCH);
+    CHECK(menu_read_pane(player, LENT, 1, MENU_PANE_CHANNELS).refusal == MENU_NO_SUCH);
+    one = menu_read_material(player, LENT, 0, MENU_MATERIAL_TEXTURE_0);
     CHECK(one.kind == MENU_ROW && one.number == 1);
-    one = menu_read_material(player, LENT, 0, 22);
+    one = menu_read_material(player, LENT, 0, MENU_MATERIAL_BLACK_RED);
     CHECK(one.kind == MENU_LEVEL && one.number == 200);
+    CHECK(menu_read_material(player, LENT, 0, MENU_MATERIAL_CHANNELS).refusal == MENU_NO_SUCH);
 
     uint8_t marks[CHANNELS];
     float numbers[CHANNELS];
     CHECK(menu_read_all(player, LENT, marks, CHANNELS, numbers, CHANNELS) == MENU_OK);
-    CHECK(marks[28] == 1 && numbers[28] == 8 && marks[29] == 0 && numbers[29] == 0);
+    const size_t moved = MENU_PANE_CHANNELS + MENU_PANE_TRANSLATE_X, still = MENU_PANE_CHANNELS + MENU_PANE_TRANSLATE_Y;
+    CHECK(marks[moved] == 1 && numbers[moved] == 8 && marks[still] == 0 && numbers[still] == 0);
     CHECK(menu_read_all(player, LENT, marks, CHANNELS, numbers, CHANNELS - 1) == MENU_OUTPUT_LENGTH);
 
     menu_resolved_pane pane = menu_resolve_pane(player, LENT, 1);

@@ -4,13 +4,14 @@
 mod fields;
 mod refused;
 mod saving;
+mod single;
 
 use cases::bits::bits_of;
 use cases::calls::held::Held;
 use cases::calls::player::Drag;
 use cases::calls::spoil::Spoil;
 use cases::calls::{Answer, Call, FILL_BITS, FILL_BYTE, NONE, One, Request, Tick, Told};
-use dovebolt::{Keys, Reading, Refusal, ResolvedPane, Srt, raw};
+use dovebolt::{Keys, MaterialChannel, PaneChannel, Reading, Refusal, ResolvedPane, Srt, raw};
 
 #[derive(Clone)]
 pub struct Ours {
@@ -125,10 +126,15 @@ impl Ours {
     fn read(&self, call: &Call, held: &Held, s: &[u8], b: &[u8]) -> Answer {
         let (player, keys) = (&self.player, &self.keys);
         match *call {
-            Call::ReadPane { pane, channel } => one(player.read_pane(s, b, keys, pane, channel)),
-            Call::ReadMaterial { material, channel } => {
-                one(player.read_material(s, b, keys, material, channel))
-            }
+            Call::ReadPane { pane, channel } => match PaneChannel::from_number(channel) {
+                Some(channel) => one(player.read_pane(s, b, keys, pane, channel)),
+                None => self.no_channel(call, held),
+            },
+            Call::ReadMaterial { material, channel } => match MaterialChannel::from_number(channel)
+            {
+                Some(channel) => one(player.read_material(s, b, keys, material, channel)),
+                None => self.no_channel(call, held),
+            },
             Call::ResolvePane(pane) => resolved_pane(player.resolve_pane(s, b, keys, pane)),
             Call::ResolveSrt { material, layer } => {
                 resolved_srt(player.resolve_srt(s, b, keys, material, layer))
@@ -141,6 +147,15 @@ impl Ours {
             Call::ReadAll { short } => self.read_all(held, s, b, short),
             Call::Cascade { short } => self.cascade(held, s, b, short),
             _ => panic!("{call:?} is no reading"),
+        }
+    }
+
+    /// A number that no channel has.
+    fn no_channel(&self, call: &Call, held: &Held) -> Answer {
+        let read = single::read(call, held, *self.player.as_raw(), &self.keys);
+        Answer {
+            refusal: read.refusal,
+            told: Told::One(One::Nothing),
         }
     }
 

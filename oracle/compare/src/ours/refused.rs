@@ -7,6 +7,8 @@ use cases::calls::held::Held;
 use cases::calls::{Call, Request};
 use dovebolt::{Keys, raw};
 
+use super::single;
+
 /// Makes a declined call again through the exports. The keys are looked at by
 /// the caller.
 pub fn keeps_all(call: &Call, held: &Held, player: raw::Player, keys: &mut Keys) {
@@ -154,16 +156,8 @@ fn zeros(call: &Call, held: &Held, player: raw::Player, keys: &Keys) -> bool {
     // SAFETY: each pointer has the length of its slice.
     unsafe {
         match *call {
-            Call::ReadPane { pane, channel } => {
-                let read = raw::menu_read_pane(
-                    player, s.0, s.1, b.0, b.1, f.0, f.1, v.0, v.1, m.0, m.1, pane, channel,
-                );
-                read.kind == 0 && all_zero(&[read.number])
-            }
-            Call::ReadMaterial { material, channel } => {
-                let read = raw::menu_read_material(
-                    player, s.0, s.1, b.0, b.1, f.0, f.1, v.0, v.1, m.0, m.1, material, channel,
-                );
+            Call::ReadPane { .. } | Call::ReadMaterial { .. } => {
+                let read = single::read(call, held, player, keys);
                 read.kind == 0 && all_zero(&[read.number])
             }
             Call::ResolvePane(pane) => {
