@@ -133,14 +133,15 @@ impl Player {
     /// The same into lent outputs, each as long as [`channel_count`] says. Refusals 1 to 5, 13.
     ///
     /// ```
-    /// use dovebolt::{Player, Refusal, example};
+    /// use dovebolt::{PaneChannel, Player, Refusal, example};
     ///
     /// let (sheet, book) = (example::sheet(), example::book());
     /// let (mut player, keys) = Player::load(&sheet)?;
     /// player.pose(&sheet, Some(0), 4.0)?;
     /// let (mut marks, mut numbers) = ([0; 86], [0.0; 86]);
     /// player.read_all_into(&sheet, &book, &keys, &mut marks, &mut numbers)?;
-    /// assert_eq!((marks[28], numbers[28]), (1, 8.0));
+    /// let place = PaneChannel::TranslateX.place(1);
+    /// assert_eq!((marks[place], numbers[place]), (1, 8.0));
     /// let declined = player.read_all_into(&sheet, &book, &keys, &mut marks[1..], &mut numbers);
     /// assert_eq!(declined, Err(Refusal::OutputLength));
     /// # Ok::<(), dovebolt::Refusal>(())

@@ -1,5 +1,5 @@
-//! Channels have the same names and numbers here, in the C header and on the command line. The last are in the list that
-//! the program `channel_names` prints, which is made from the Rust's targets.rs.
+//! Channels have the same names and numbers here, in the C header, on the command line and in docs/FORMAT.md. The command
+//! line's are in the list that the program `channel_names` prints, which is made from the Rust's targets.rs.
 
 use std::fs;
 use std::path::Path;
@@ -59,6 +59,19 @@ fn as_the_header_declares_them() {
     assert_eq!(panes(), declared("menu_pane_channel", "MENU_PANE_"));
     let declared = declared("menu_material_channel", "MENU_MATERIAL_");
     assert_eq!(materials(), declared);
+}
+
+/// The rows ``| 11 | `alpha` |`` of the document's tables of channels.
+#[test]
+fn as_the_document_lists_them() {
+    let document = file("docs/FORMAT.md");
+    let rows = document.lines().filter_map(|line| {
+        let (number, rest) = line.strip_prefix("| ")?.split_once(" | `")?;
+        let (name, _) = rest.split_once("` | FL")?;
+        Some((number.parse().ok()?, name.to_string()))
+    });
+    let listed: Vec<(u16, String)> = rows.collect();
+    assert_eq!(listed, [panes(), materials()].concat());
 }
 
 /// A variant is the words of its name.

@@ -1,13 +1,17 @@
--- The sixteen corner colours by name (document 02, 3/13): which one a raw number stands for, and which channel each has. What `paneChannel` says of them
--- by number is what these say by name. Assumes nothing.
+-- The sixteen corner colours by name (document 02, 3/13): which one a raw number stands for, which channel each has, and that these are the channels which
+-- `paneChannel` gives by number. Assumes nothing.
 use Prim.Native.Nat.{ℕ, _+_, _<_}
 use mathlib.Core.Path.{_≡_, refl}
 use mathlib.Core.Bool.{Bool}
 use mathlib.Core.List.{List, [], _∷_}
-use borrow.Author.Tests.{eqb-true}
+use native.Mathlib.Omega.{arith}
+use borrow.Author.Tests.{eqb-true, ne-eqb, lt-ltb, le-ltb}
 use lib.Dec.{eqb}
 use lib.ListN.{getD}
 use Rattle.laws.specs.Below.{allBelow, all-at}
+use Rattle.laws.specs.declared.Found.the-variants as found
+use Rattle.channel.specs.Channel.{alphaChannel, listed, paneChannel}
+use Rattle.channel.specs.declared.Family.the-variants.{VertexColor}
 use Rattle.channel.specs.declared.corner_colours.CornerColour.{CornerColour}
 use Rattle.channel.specs.declared.corner_colours.CornerColour.the-variants.{LeftTopRed, LeftTopGreen, LeftTopBlue, LeftTopAlpha, RightTopRed, RightTopGreen, RightTopBlue, RightTopAlpha, LeftBottomRed, LeftBottomGreen, LeftBottomBlue, LeftBottomAlpha, RightBottomRed, RightBottomGreen, RightBottomBlue, RightBottomAlpha}
 
@@ -47,10 +51,27 @@ cornerChannel RightBottomGreen = 25
 cornerChannel RightBottomBlue = 26
 cornerChannel RightBottomAlpha = 27
 
--- by name and by number, the same channel: tested at each of the sixteen
+-- the channel by name is the one by number: one test, computed at each of the sixteen
 byNumber : ℕ → Bool
 byNumber raw = eqb (cornerChannel (cornerColour raw)) (12 + raw)
 
 pub corner-by-number : (raw : ℕ) → raw < paneAlpha → cornerChannel (cornerColour raw) ≡ 12 + raw
 unfolding allBelow byNumber
 corner-by-number raw l = eqb-true (cornerChannel (cornerColour raw)) (12 + raw) (all-at paneAlpha byNumber raw refl l)
+
+-- ---- each raw number reaches the channel of its name
+
+-- below PaneAlpha's: that of its corner colour
+pub corner-reached : (raw : ℕ) → raw < paneAlpha → paneChannel VertexColor raw ≡ found.At (cornerChannel (cornerColour raw))
+unfolding paneChannel listed
+corner-reached raw l = rw (lt-ltb raw 17 (omega arith), ne-eqb raw paneAlpha (λ e. omega arith), corner-by-number raw l)
+
+-- PaneAlpha's: the pane's alpha
+pub alpha-reached : paneChannel VertexColor paneAlpha ≡ found.At alphaChannel
+unfolding paneChannel listed
+alpha-reached = refl
+
+-- above it, where targets.rs lists none: that of the first
+pub unlisted-reached : (raw : ℕ) → paneAlpha < raw → paneChannel VertexColor raw ≡ found.At (cornerChannel LeftTopRed)
+unfolding paneChannel listed
+unlisted-reached raw l = rw (le-ltb raw 17 (omega arith))

@@ -16,7 +16,6 @@ pub use address::of_pane;
 pub use address::pane_channel;
 pub use address::row_channel;
 pub use address::slot_channel;
-pub use corner_colours::CornerColour;
 pub use place::Place;
 pub use place::hits;
 pub use place::place_of;

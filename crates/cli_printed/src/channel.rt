@@ -1,4 +1,5 @@
-// Channels by name, in document 01's order. The names are the variants of targets.rs, and document 01's own words where an enum has no word for it.
+// Channels by name, in document 01's order. The names are the variants of targets.rs, and document 01's own words where an enum has no word for it;
+// the program channel_names prints them all, and what it must print is made from targets.rs.
 use crate::text::say;
 
 // How many channels a pane has, and a material.

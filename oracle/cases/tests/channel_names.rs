@@ -29,20 +29,43 @@ fn each_raw_number_reaches_the_channel_of_its_name() {
     }
 }
 
-/// What targets.rs lists, read off its text: sixteen corners and the pane's
-/// alpha, and behind them the first again.
-#[test]
-fn what_is_listed() {
-    let text = include_str!("../../../../shared/docs/src--nnbfl--src--bflan--targets.rs.txt");
-    let from = text.find("pub enum VertexColorTarget {").expect("the enum");
-    let body = &text[from..][..text[from..].find('}').expect("its end")];
-    let variants: Vec<&str> = body
-        .lines()
-        .skip(1)
-        .map(|line| line.trim().trim_end_matches(','))
+/// The words between a line and the next `end`: variants, or elements of a table.
+fn listed<'a>(text: &'a str, line: &str, end: char) -> Vec<&'a str> {
+    let (_, from) = text.split_once(line).expect("the line");
+    let (body, _) = from.split_once(end).expect("its end");
+    let words = body.lines().map(|word| word.trim().trim_end_matches(','));
+    words
         .filter(|word| !word.is_empty() && !word.starts_with('#'))
+        .collect()
+}
+
+const TARGETS: &str =
+    include_str!("../../../../shared/docs/src--nnbfl--src--bflan--targets.rs.txt");
+const OURS: &str = include_str!("../../../crates/channel/src/corner_colours.rt");
+
+/// The cases of the proved code are targets.rs's, in its order and spelling, and
+/// each stands at its raw number.
+#[test]
+fn the_cases_are_those_of_targets_rs() {
+    let theirs = listed(TARGETS, "pub enum VertexColorTarget {\n", '}');
+    assert_eq!((theirs.len(), theirs[16]), (17, "PaneAlpha"));
+    assert_eq!(listed(OURS, "pub enum CornerColour {\n", '}'), theirs[..16]);
+    let table = listed(
+        OURS,
+        "const CORNER_COLOURS: [CornerColour; PANE_ALPHA] = [\n",
+        ']',
+    );
+    let table: Vec<&str> = table
+        .iter()
+        .filter_map(|c| c.strip_prefix("CornerColour::"))
         .collect();
-    assert_eq!(variants.len(), 17);
+    assert_eq!(table, theirs[..16]);
+}
+
+/// A name that is printed is made of the variant's words.
+#[test]
+fn the_names_are_those_of_targets_rs() {
+    let variants = listed(TARGETS, "pub enum VertexColorTarget {\n", '}');
     for raw in 0..=255 {
         let variant = variants.get(usize::from(raw)).unwrap_or(&variants[0]);
         let name = names::corner_or_alpha(raw).replace('_', "");
