@@ -50,7 +50,8 @@ enum {
     MENU_MATERIAL_CHANNELS = 30 /* 3 layers of an SRT, 3 textures, indirect rotation and scales, alpha reference, 8 colours */
 };
 
-/* ---- channels: the names of the Rust's targets.rs, in its order; docs/FORMAT.md has each one's code and raw number */
+/* ---- channels, in the scope paper's order. A name is that of its variant in the published Rust's targets.rs, or the
+ * paper's own word (VISIBLE, ALPHA, TEXTURE_0, BLACK_RED); docs/FORMAT.md has each one's code, raw number and variant */
 enum menu_pane_channel {
     MENU_PANE_TRANSLATE_X = 0,
     MENU_PANE_TRANSLATE_Y = 1,
@@ -311,8 +312,8 @@ menu_read_one menu_read_material(menu_player player, const uint8_t *sheet, size_
                                  uint16_t channel);
 
 /* Every channel, panes first: a mark (0 or 1) and a number (0 where unmarked). Both outputs are MENU_PANE_CHANNELS a
- * pane and MENU_MATERIAL_CHANNELS a material long: channel c of pane p is at p * MENU_PANE_CHANNELS + c. Refusals 1 to 5,
- * 13. */
+ * pane and MENU_MATERIAL_CHANNELS a material long: channel c of pane p is at p * MENU_PANE_CHANNELS + c, and of material m,
+ * after all panes, at m * MENU_MATERIAL_CHANNELS + c. Refusals 1 to 5, 13. */
 uint8_t menu_read_all(menu_player player, const uint8_t *sheet, size_t sheet_len, const uint8_t *book, size_t book_len,
                       const float *frames, size_t frames_len, const float *values, size_t values_len,
                       const float *slopes, size_t slopes_len, uint8_t *marks, size_t marks_len, float *numbers,

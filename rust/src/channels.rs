@@ -1,5 +1,5 @@
-//! Channels by name. The names are those of the Rust's targets.rs, in its order; where several of its variants reach one
-//! channel, or it has no word for it, the scope paper's own word (`visible`, `alpha`, `texture_0`, `black_red`).
+//! Channels by name, in the scope paper's order. A name is that of its variant in the published Rust's targets.rs, or the
+//! paper's own word (`visible`, `alpha`, `texture_0`, `alpha_reference`, `black_red`); a layer's number stands before it.
 
 use std::fmt;
 
@@ -46,7 +46,9 @@ macro_rules! channels {
 }
 
 channels! {
-    /// A channel of a pane. Each says the code and the raw number by which a sheet's target addresses it.
+    /// A channel of a pane, named as its variant in the published Rust's targets.rs; `Visible` and `Alpha` are the scope
+    /// paper's words. Each says the code and the raw number by which a sheet's target addresses it. A raw number that the
+    /// family doesn't list stands for 0.
     ///
     /// ```
     /// use dovebolt::PaneChannel;
@@ -88,7 +90,9 @@ channels! {
 }
 
 channels! {
-    /// A channel of a material. Each says the code, the raw number and the layer by which a sheet's target addresses it.
+    /// A channel of a material, named likewise; `Texture0`, `AlphaReference`, `BlackRed` and `WhiteRed` are the scope
+    /// paper's words. Each says the code, the raw number and the layer by which a sheet's target addresses it; where none is
+    /// said, any. A raw number that the family doesn't list stands for 0.
     ///
     /// ```
     /// use dovebolt::MaterialChannel;

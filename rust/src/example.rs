@@ -6,9 +6,9 @@
 //! | track | animation | what | keys (frame, value, slope) |
 //! |---|---|---|---|
 //! | 0 | 0 | "Logo" visible, Step | (0, 0), (4, 1) |
-//! | 1 | 0 | "Glow" texture of slot 0, Step | (0, 0), (4, 1) |
-//! | 2 | 0 | "Glow" black red level, Constant | 200 |
-//! | 3 | 0 | "Logo" translate x, Hermite | (0, 0, 0), (8, 16, 0) |
+//! | 1 | 0 | "Glow" texture_0, Step | (0, 0), (4, 1) |
+//! | 2 | 0 | "Glow" black_red, Constant | 200 |
+//! | 3 | 0 | "Logo" translate_x, Hermite | (0, 0, 0), (8, 16, 0) |
 //! | 4 | 1 | "Logo" alpha, Hermite | (0, 255, 0), (60, 51, 0) |
 //!
 //! ```

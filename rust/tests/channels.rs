@@ -74,11 +74,13 @@ fn as_the_document_lists_them() {
     assert_eq!(listed, [panes(), materials()].concat());
 }
 
-/// A variant is the words of its name.
+/// A variant is the words of its name, each with a capital.
 #[test]
 fn as_they_are_spelled() {
     let spelled = |variant: String, name: &str| {
-        assert_eq!(variant.to_lowercase(), name.replace('_', ""));
+        let words = name.split('_');
+        let words = words.map(|word| word[..1].to_uppercase() + &word[1..]);
+        assert_eq!(variant, words.collect::<String>());
     };
     for c in PaneChannel::ALL {
         spelled(format!("{c:?}"), c.name());

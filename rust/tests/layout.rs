@@ -275,6 +275,10 @@ fn readings() {
     assert_eq!(pane(PaneChannel::Visible), Ok(Reading::Shown(true)));
     assert_eq!(material(MaterialChannel::Texture0), Ok(Reading::Row(1)));
     assert_eq!(material(MaterialChannel::BlackRed), Ok(Reading::Level(200)));
+    let no_pane = player.read_pane(&sheet, &book, &keys, 2, PaneChannel::Alpha);
+    assert_eq!(no_pane, Err(Refusal::NoSuch));
+    let no_material = player.read_material(&sheet, &book, &keys, 1, MaterialChannel::Texture0);
+    assert_eq!(no_material, Err(Refusal::NoSuch));
     player.pose(&sheet, Some(0), 3.0).unwrap();
     assert_eq!(
         player.read_pane(&sheet, &book, &keys, 1, PaneChannel::Visible),

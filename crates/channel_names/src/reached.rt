@@ -13,7 +13,7 @@ const RAW: usize = 71;
 
 const CURVE: usize = 76;
 
-// The place of the only mark, or how many places there are.
+// The place of the only mark; PANE_CHANNELS where there is none or more than one.
 fn only(marks: &[u8; PANE_CHANNELS]) -> usize {
     let mut place = PANE_CHANNELS;
     let mut several = false;
@@ -28,7 +28,7 @@ fn only(marks: &[u8; PANE_CHANNELS]) -> usize {
     if several { PANE_CHANNELS } else { place }
 }
 
-// The only channel that is overridden, or how many there are. A call that is declined leaves every mark at 0.
+// The only channel that is overridden; PANE_CHANNELS where there is none or more than one. A call that is declined leaves every mark at 0.
 fn overridden(s: &[u8], b: &[u8]) -> usize {
     let mut frames = [0.0f32; 1];
     let mut values = [0.0f32; 1];
@@ -56,7 +56,7 @@ fn with(s: &mut [u8; SHEET_BYTES], b: &[u8; BOOK_BYTES], kind: u8, curve: u8) ->
     overridden(s, b)
 }
 
-// The channel, from a content of type Pane and of type PaneExt and by each curve; or how many there are, where two of these differ.
+// The channel, from a content of type Pane and of type PaneExt and by each curve; PANE_CHANNELS where two of these differ.
 pub fn reached(s: &mut [u8; SHEET_BYTES], b: &[u8; BOOK_BYTES], raw: u8) -> usize {
     s[RAW] = raw;
     let c = with(s, b, 0, 0);

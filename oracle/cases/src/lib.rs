@@ -4,10 +4,10 @@
 
 pub mod bits;
 pub mod calls;
+pub mod channel_names;
 pub mod curves;
 pub mod format;
 pub mod geometry;
-pub mod names;
 pub mod random;
 pub mod reached;
 pub mod readings;

@@ -2,10 +2,10 @@
 //! raw number of FLVC the channel of the name that targets.rs has for it, then
 //! every channel's name by its number.
 
+use crate::channel_names;
 use crate::format::book::{Book, NO_PARENT, Pane, VISIBLE};
 use crate::format::name;
 use crate::format::sheet::{Animation, Content, Sheet, Target};
-use crate::names;
 use crate::stored::File;
 use std::fmt::Write;
 
@@ -57,11 +57,11 @@ pub fn book() -> Book {
 pub fn text() -> String {
     let mut text = String::new();
     for raw in 0..=255 {
-        let _ = writeln!(text, "FLVC {raw} {}", names::corner_or_alpha(raw));
+        let _ = writeln!(text, "FLVC {raw} {}", channel_names::corner_or_alpha(raw));
     }
     let rows = [
-        ("pane", names::of_panes()),
-        ("material", names::of_materials()),
+        ("pane", channel_names::of_panes()),
+        ("material", channel_names::of_materials()),
     ];
     for (row, names) in rows {
         for (number, name) in names.iter().enumerate() {

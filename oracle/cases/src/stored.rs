@@ -1,7 +1,7 @@
 //! Every file that is stored in crates/: the samples that the program `vectors`
-//! replays, the lists of calls of `cli_lists` and the sheet of `channel_names`,
-//! each with what the program must write. The seeds stand here, so the same
-//! bytes come out each time.
+//! replays, the lists of calls of `cli_lists` and the sheet and book of
+//! `channel_names`, each with what the program must write. The seeds stand here,
+//! so the same bytes come out each time.
 
 use crate::{calls, curves, geometry, reached, sheets};
 

@@ -1,14 +1,16 @@
 //! Each raw number of FLVC on the published text: its `evaluate` overrides the
-//! channel of the name that targets.rs has for the number, and no other.
+//! channel of the name that targets.rs has for the number, and no other. The
+//! proved code's cases, and the names that are printed, are those of targets.rs's
+//! own text.
 
 use cases::bits::bits_of;
-use cases::names;
+use cases::channel_names;
 use cases::reached;
 use cases::readings::{Case, whole};
 
 #[test]
 fn each_raw_number_reaches_the_channel_of_its_name() {
-    let channels = names::of_panes();
+    let channels = channel_names::of_panes();
     for raw in 0..=255 {
         for (kind, curve) in [(0, 0), (0, 1), (0, 2), (3, 0), (3, 1), (3, 2)] {
             let case = Case {
@@ -19,7 +21,7 @@ fn each_raw_number_reaches_the_channel_of_its_name() {
             let read = whole::reading(&case.book, &whole::state(&case));
             let place = channels
                 .iter()
-                .position(|c| *c == names::corner_or_alpha(raw));
+                .position(|c| *c == channel_names::corner_or_alpha(raw));
             let marked: Vec<usize> = (0..channels.len())
                 .filter(|&c| read.marks[c] == 1)
                 .collect();
@@ -68,7 +70,7 @@ fn the_names_are_those_of_targets_rs() {
     let variants = listed(TARGETS, "pub enum VertexColorTarget {\n", '}');
     for raw in 0..=255 {
         let variant = variants.get(usize::from(raw)).unwrap_or(&variants[0]);
-        let name = names::corner_or_alpha(raw).replace('_', "");
+        let name = channel_names::corner_or_alpha(raw).replace('_', "");
         let word = variant.to_lowercase();
         assert_eq!(
             name,

@@ -1,7 +1,7 @@
 //! Each raw number of FLVC through the package `dovebolt`: the channel of the
 //! name that targets.rs has for the number is read, and no other.
 
-use cases::{names, reached};
+use cases::{channel_names, reached};
 use dovebolt::{MaterialChannel, PaneChannel, Player, Reading};
 
 #[test]
@@ -14,7 +14,7 @@ fn each_raw_number_reaches_the_channel_of_its_name() {
             player.pose(&sheet, Some(0), 0.0).expect("a pose");
             for channel in PaneChannel::ALL {
                 let read = player.read_pane(&sheet, &book, &keys, 0, channel);
-                let named = channel.name() == names::corner_or_alpha(raw);
+                let named = channel.name() == channel_names::corner_or_alpha(raw);
                 let expected = if named {
                     Reading::Number(51.0 / 255.0)
                 } else {
@@ -29,7 +29,7 @@ fn each_raw_number_reaches_the_channel_of_its_name() {
 #[test]
 fn every_name_is_that_of_targets_rs() {
     let panes = PaneChannel::ALL.map(PaneChannel::name);
-    assert_eq!(panes.as_slice(), names::of_panes());
+    assert_eq!(panes.as_slice(), channel_names::of_panes());
     let materials = MaterialChannel::ALL.map(MaterialChannel::name);
-    assert_eq!(materials.as_slice(), names::of_materials());
+    assert_eq!(materials.as_slice(), channel_names::of_materials());
 }

@@ -1,6 +1,6 @@
 //! Channels by name; one that there is not by its number.
 
-use crate::names;
+use crate::channel_names;
 
 fn named(names: &[String], channel: u16) -> String {
     let name = names.get(usize::from(channel)).cloned();
@@ -8,9 +8,9 @@ fn named(names: &[String], channel: u16) -> String {
 }
 
 pub fn of_pane(channel: u16) -> String {
-    named(&names::of_panes(), channel)
+    named(&channel_names::of_panes(), channel)
 }
 
 pub fn of_material(channel: u16) -> String {
-    named(&names::of_materials(), channel)
+    named(&channel_names::of_materials(), channel)
 }

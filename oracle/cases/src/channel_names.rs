@@ -1,7 +1,8 @@
 //! Channels by name, in document 01's order. A name is made from the published
 //! enum's own text, as Rust prints a variant: `LeftTopRed` is `left_top_red`.
-//! Where document 01 has a word of its own (visible, alpha, black and white),
-//! or a layer or slot goes with the name, that is added here.
+//! Where document 01 has a word of its own (visible, alpha, texture, indirect,
+//! alpha reference, black and white), or a layer or slot goes with the name,
+//! that is added here.
 
 use published::bflan::targets::{
     IndirectSrtTarget, MaterialColorTarget, PaneSrtTarget, TextureSrtTarget, VertexColorTarget,
