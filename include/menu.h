@@ -139,7 +139,7 @@ typedef struct {
 /* The key that is being dragged. While no drag is open every field is 0, and calls look at `open` alone. */
 typedef struct {
     bool open;
-    bool moved; /* a drag was accepted since the opening, so that a drop leaves an edit */
+    bool moved; /* a drag was accepted since the opening; without one a drop leaves no edit */
     uint16_t track;
     uint16_t key;
     float start_frame; /* the key as it was at the opening, which an abandon puts back */
@@ -167,6 +167,13 @@ typedef struct {
     uint8_t refusal;
     menu_player player;
 } menu_played;
+
+/* What an edit, a drag and a drop answer. */
+typedef struct {
+    uint8_t refusal;
+    bool unchanged; /* accepted, with nothing to make: no edit is left, and reach and redo are kept */
+    menu_player player;
+} menu_edited;
 
 typedef struct {
     uint8_t refusal;
@@ -244,16 +251,19 @@ menu_played menu_pose(menu_player player, const uint8_t *sheet, size_t sheet_len
  * Refusals 1, 5, 8. */
 menu_ticked menu_tick(menu_player player, const uint8_t *sheet, size_t sheet_len, float dt, float fps);
 
-/* ---- editing: the keys are those that menu_load filled */
+/* ---- editing: the keys are those that menu_load filled
+ *
+ * An edit is unchanged where it would leave the key's frame, value and slope bit for bit as they are; -0 and +0 differ.
+ * Then player and keys are as they were. */
 
 /* Moves a key of the active animation to a frame and a value, held between its neighbours.
  * Refusals 1, 3 to 6, 15, 7 to 9. */
-menu_played menu_key_edit(menu_player player, const uint8_t *sheet, size_t sheet_len, float *frames, size_t frames_len,
+menu_edited menu_key_edit(menu_player player, const uint8_t *sheet, size_t sheet_len, float *frames, size_t frames_len,
                           float *values, size_t values_len, float *slopes, size_t slopes_len, uint16_t track,
                           uint16_t key, float frame, float value);
 
 /* Gives a Hermite key of the active animation a slope. Refusals 1, 3 to 6, 15, 7, 8, 10. */
-menu_played menu_slope_edit(menu_player player, const uint8_t *sheet, size_t sheet_len, float *frames,
+menu_edited menu_slope_edit(menu_player player, const uint8_t *sheet, size_t sheet_len, float *frames,
                             size_t frames_len, float *values, size_t values_len, float *slopes, size_t slopes_len,
                             uint16_t track, uint16_t key, float slope);
 
@@ -281,14 +291,14 @@ menu_played menu_open_drag(menu_player player, const uint8_t *sheet, size_t shee
                            size_t frames_len, const float *values, size_t values_len, const float *slopes,
                            size_t slopes_len, uint16_t track, uint16_t key);
 
-/* Moves the opened key as menu_key_edit does, whatever animation is active by now, and counts nothing.
- * Refusals 1, 3 to 5, 15, 8, 9. */
-menu_played menu_drag(menu_player player, const uint8_t *sheet, size_t sheet_len, float *frames, size_t frames_len,
+/* Moves the opened key as menu_key_edit does, whatever animation is active by now, and counts nothing. Unchanged where the
+ * key stays bit for bit where it is now, which is accepted all the same: `moved` is set. Refusals 1, 3 to 5, 15, 8, 9. */
+menu_edited menu_drag(menu_player player, const uint8_t *sheet, size_t sheet_len, float *frames, size_t frames_len,
                       float *values, size_t values_len, float *slopes, size_t slopes_len, float frame, float value);
 
-/* Closes the drag and leaves the key where it is, as one edit from the key at the opening to the key now. Where no drag
- * was accepted there is no edit, and redo is kept. Refusals 1, 3 to 5, 15. */
-menu_played menu_drop_drag(menu_player player, const uint8_t *sheet, size_t sheet_len, const float *frames,
+/* Closes the drag and leaves the key where it is, as one edit from the key at the opening to the key now. Unchanged where
+ * no drag was accepted or the two have the same bits. Refusals 1, 3 to 5, 15. */
+menu_edited menu_drop_drag(menu_player player, const uint8_t *sheet, size_t sheet_len, const float *frames,
                            size_t frames_len, const float *values, size_t values_len, const float *slopes,
                            size_t slopes_len);
 

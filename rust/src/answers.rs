@@ -28,6 +28,31 @@ pub enum Tick {
     Next,
 }
 
+/// What an edit, a drag or a drop came to. Keys are compared bit for bit, so that −0 and +0 differ.
+///
+/// ```
+/// use dovebolt::{Edited, Player, example};
+///
+/// let sheet = example::sheet();
+/// let (mut player, mut keys) = Player::load(&sheet)?;
+/// player.pose(&sheet, Some(0), 0.0)?;
+/// assert_eq!(player.key_edit(&sheet, &mut keys, 3, 1, 6.0, 20.0)?, Edited::Made);
+/// player.undo(&sheet, &mut keys)?;
+/// // where the key is already: what was undone can still be redone
+/// assert_eq!(player.key_edit(&sheet, &mut keys, 3, 1, 8.0, 16.0)?, Edited::Unchanged);
+/// player.redo(&sheet, &mut keys)?;
+/// assert_eq!((keys.frames[6], keys.values[6]), (6.0, 20.0));
+/// # Ok::<(), dovebolt::Refusal>(())
+/// ```
+#[derive(Clone, Copy, Debug, PartialEq, Eq, Hash)]
+pub enum Edited {
+    /// The edit or drag gave the key other bits; the drop left an edit.
+    Made,
+    /// The edit or drag would give the key the bits that it has; the drop left no edit. Nothing is counted, and what can
+    /// be undone or redone stays.
+    Unchanged,
+}
+
 /// What one channel reads.
 ///
 /// ```

@@ -1,5 +1,6 @@
 //! Dragging a key: it is moved any number of times, and undo sees one edit or none.
 
+use crate::answers::Edited;
 use crate::keys::{Key, Keys, on_keys, read_keys};
 use crate::player::Player;
 use crate::raw;
@@ -26,7 +27,7 @@ pub struct Drag {
     pub key: u16,
     /// The key as it was when the drag was opened.
     pub start: Key,
-    /// Whether a drag was accepted since then, so that [`Player::drop_drag`] leaves an edit.
+    /// Whether a drag was accepted since then. Without one [`Player::drop_drag`] leaves no edit.
     pub moved: bool,
 }
 
@@ -101,10 +102,11 @@ impl Player {
     }
 
     /// Moves the opened key to a frame and a value as [`Player::key_edit`] does, whatever animation is active by now.
-    /// Nothing is counted, and what can be undone or redone stays. Refusals 1, 3 to 5, 15, 8, 9.
+    /// Nothing is counted, and what can be undone or redone stays. [`Edited::Unchanged`] where that leaves the key bit for
+    /// bit as it is now; it is an accepted drag too, and sets [`Drag::moved`]. Refusals 1, 3 to 5, 15, 8, 9.
     ///
     /// ```
-    /// use dovebolt::{PaneChannel, Player, Reading, Refusal, example};
+    /// use dovebolt::{Edited, PaneChannel, Player, Reading, Refusal, example};
     ///
     /// let (sheet, book) = (example::sheet(), example::book());
     /// let (mut player, mut keys) = Player::load(&sheet)?;
@@ -118,6 +120,7 @@ impl Player {
     ///     assert_eq!(translate_x, Reading::Number(value));
     /// }
     /// assert_eq!(player.reach(), 0);
+    /// assert_eq!(player.drag(&sheet, &mut keys, 6.0, 39.0), Ok(Edited::Unchanged));
     /// assert_eq!(player.drag(&sheet, &mut keys, f32::NAN, 0.0), Err(Refusal::NotFinite));
     /// assert_eq!((keys.frames[6], keys.values[6]), (6.0, 39.0));
     /// # Ok::<(), dovebolt::Refusal>(())
@@ -128,17 +131,18 @@ impl Player {
         keys: &mut Keys,
         frame: f32,
         value: f32,
-    ) -> Result<(), Refusal> {
+    ) -> Result<Edited, Refusal> {
         let answer = on_keys!(raw::menu_drag, *self.as_raw(), sheet, keys, frame, value);
-        self.take(answer)
+        self.take_edited(answer)
     }
 
     /// Closes the drag and leaves the key where it is. However often it was moved, that is one edit, and one undo takes it
-    /// back to where it was when the drag was opened; as with any edit, nothing can be redone then. Where no drag was
-    /// accepted there is no edit, and what can be redone stays. Refusals 1, 3 to 5, 15.
+    /// back to where it was when the drag was opened; as with any edit, nothing can be redone then.
+    /// [`Edited::Unchanged`] where no drag was accepted or the key has the bits that it had when the drag was opened: there
+    /// is no edit, and what can be redone stays. Refusals 1, 3 to 5, 15.
     ///
     /// ```
-    /// use dovebolt::{Player, Refusal, example};
+    /// use dovebolt::{Edited, Player, Refusal, example};
     ///
     /// let sheet = example::sheet();
     /// let (mut player, mut keys) = Player::load(&sheet)?;
@@ -146,18 +150,24 @@ impl Player {
     /// player.open_drag(&sheet, &keys, 3, 1)?;
     /// player.drag(&sheet, &mut keys, 7.0, 18.0)?;
     /// player.drag(&sheet, &mut keys, 6.0, 20.0)?;
-    /// player.drop_drag(&sheet, &keys)?;
+    /// assert_eq!(player.drop_drag(&sheet, &keys), Ok(Edited::Made));
     /// assert_eq!((keys.frames[6], keys.values[6]), (6.0, 20.0));
     /// assert_eq!((player.dragging(), player.reach()), (None, 1));
     ///
     /// player.undo(&sheet, &mut keys)?;
     /// assert_eq!((keys.frames[6], keys.values[6]), (8.0, 16.0));
     /// assert_eq!(player.drop_drag(&sheet, &keys), Err(Refusal::DragState));
+    ///
+    /// player.open_drag(&sheet, &keys, 3, 1)?;
+    /// player.drag(&sheet, &mut keys, 7.0, 18.0)?;
+    /// player.drag(&sheet, &mut keys, 8.0, 16.0)?; // back where it was
+    /// assert_eq!(player.drop_drag(&sheet, &keys), Ok(Edited::Unchanged));
+    /// assert_eq!((player.dragging(), player.redoable()), (None, 1));
     /// # Ok::<(), dovebolt::Refusal>(())
     /// ```
-    pub fn drop_drag(&mut self, sheet: &[u8], keys: &Keys) -> Result<(), Refusal> {
+    pub fn drop_drag(&mut self, sheet: &[u8], keys: &Keys) -> Result<Edited, Refusal> {
         let answer = read_keys!(raw::menu_drop_drag, *self.as_raw(), sheet, keys);
-        self.take(answer)
+        self.take_edited(answer)
     }
 
     /// Closes the drag and puts the key back as it was when the drag was opened. That leaves no edit: nothing is counted,

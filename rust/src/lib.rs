@@ -22,7 +22,8 @@
 //! # Ok::<(), dovebolt::Refusal>(())
 //! ```
 //!
-//! A key that follows the mouse is dragged: it is moved any number of times, and undo sees one edit.
+//! A key that follows the mouse is dragged: it is moved any number of times, and undo sees one edit. Where an edit or a
+//! drag leaves the key as it was, undo sees none, and what was undone can still be redone: [`Edited::Unchanged`].
 //!
 //! ```
 //! use dovebolt::{Player, example};
@@ -53,7 +54,7 @@ mod readings;
 mod refusal;
 mod shapes;
 
-pub use answers::{Cascaded, Channels, Reading, ResolvedPane, Srt, Tick, Transform};
+pub use answers::{Cascaded, Channels, Edited, Reading, ResolvedPane, Srt, Tick, Transform};
 pub use channels::{MaterialChannel, PaneChannel};
 pub use dragging::Drag;
 pub use formats::{

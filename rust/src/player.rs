@@ -1,4 +1,4 @@
-use crate::answers::Tick;
+use crate::answers::{Edited, Tick};
 use crate::formats::{Name, next_name};
 use crate::keys::{Keys, on_keys, read_keys};
 use crate::raw::{self, NONE};
@@ -39,6 +39,14 @@ fn tick_of(answer: u8) -> Tick {
         2 => Tick::Ended,
         3 => Tick::Next,
         other => unreachable!("a tick answers 0 to 3, not {other}"),
+    }
+}
+
+fn edited_of(unchanged: bool) -> Edited {
+    if unchanged {
+        Edited::Unchanged
+    } else {
+        Edited::Made
     }
 }
 
@@ -251,6 +259,13 @@ impl Player {
         Ok(())
     }
 
+    /// The same for an edit, a drag or a drop, with what it came to.
+    pub(crate) fn take_edited(&mut self, answer: raw::Edited) -> Result<Edited, Refusal> {
+        checked(answer.refusal)?;
+        self.raw = answer.player;
+        Ok(edited_of(answer.unchanged))
+    }
+
     /// Plays an animation from its start; none does nothing. Refusals 1, 5, 6.
     ///
     /// ```
@@ -346,16 +361,18 @@ impl Player {
         next_name(sheet, self.raw.selection)
     }
 
-    /// Moves a key of the active animation to a frame and a value. Refusals 1, 3 to 6, 15, 7 to 9.
+    /// Moves a key of the active animation to a frame and a value, held between its neighbours.
+    /// [`Edited::Unchanged`] where that leaves the key bit for bit as it is. Refusals 1, 3 to 6, 15, 7 to 9.
     ///
     /// ```
-    /// use dovebolt::{Player, Refusal, example};
+    /// use dovebolt::{Edited, Player, Refusal, example};
     ///
     /// let sheet = example::sheet();
     /// let (mut player, mut keys) = Player::load(&sheet)?;
     /// player.pose(&sheet, Some(0), 0.0)?;
-    /// player.key_edit(&sheet, &mut keys, 3, 1, 6.0, 20.0)?;
+    /// assert_eq!(player.key_edit(&sheet, &mut keys, 3, 1, 6.0, 20.0), Ok(Edited::Made));
     /// assert_eq!((keys.frames[6], keys.values[6]), (6.0, 20.0));
+    /// assert_eq!(player.key_edit(&sheet, &mut keys, 3, 1, 6.0, 20.0), Ok(Edited::Unchanged));
     /// assert_eq!(player.key_edit(&sheet, &mut keys, 3, 2, 6.0, 20.0), Err(Refusal::NoSuch));
     /// # Ok::<(), dovebolt::Refusal>(())
     /// ```
@@ -367,7 +384,7 @@ impl Player {
         key: u16,
         frame: f32,
         value: f32,
-    ) -> Result<(), Refusal> {
+    ) -> Result<Edited, Refusal> {
         let answer = on_keys!(
             raw::menu_key_edit,
             self.raw,
@@ -378,19 +395,21 @@ impl Player {
             frame,
             value
         );
-        self.take(answer)
+        self.take_edited(answer)
     }
 
-    /// Gives a Hermite key of the active animation a slope. Refusals 1, 3 to 6, 15, 7, 8, 10.
+    /// Gives a Hermite key of the active animation a slope. [`Edited::Unchanged`] where that leaves the key bit for bit as
+    /// it is. Refusals 1, 3 to 6, 15, 7, 8, 10.
     ///
     /// ```
-    /// use dovebolt::{Player, Refusal, example};
+    /// use dovebolt::{Edited, Player, Refusal, example};
     ///
     /// let sheet = example::sheet();
     /// let (mut player, mut keys) = Player::load(&sheet)?;
     /// player.pose(&sheet, Some(0), 0.0)?;
-    /// player.slope_edit(&sheet, &mut keys, 3, 1, 0.5)?;
+    /// assert_eq!(player.slope_edit(&sheet, &mut keys, 3, 1, 0.5), Ok(Edited::Made));
     /// assert_eq!(keys.slopes[6], 0.5);
+    /// assert_eq!(player.slope_edit(&sheet, &mut keys, 3, 1, 0.5), Ok(Edited::Unchanged));
     /// assert_eq!(player.slope_edit(&sheet, &mut keys, 0, 1, 0.5), Err(Refusal::NotHermite));
     /// # Ok::<(), dovebolt::Refusal>(())
     /// ```
@@ -401,7 +420,7 @@ impl Player {
         track: u16,
         key: u16,
         slope: f32,
-    ) -> Result<(), Refusal> {
+    ) -> Result<Edited, Refusal> {
         let answer = on_keys!(
             raw::menu_slope_edit,
             self.raw,
@@ -411,7 +430,7 @@ impl Player {
             key,
             slope
         );
-        self.take(answer)
+        self.take_edited(answer)
     }
 
     /// Takes the last standing edit back. Refusals 1, 3 to 5, 15, 11.

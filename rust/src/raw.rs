@@ -81,6 +81,15 @@ pub struct Played {
     pub player: Player,
 }
 
+/// What an edit, a drag and a drop answer. `unchanged` says that there was nothing to make.
+#[repr(C)]
+#[derive(Clone, Copy, Debug, PartialEq)]
+pub struct Edited {
+    pub refusal: u8,
+    pub unchanged: bool,
+    pub player: Player,
+}
+
 /// What a tick answers: 0 idle, 1 running, 2 ended, 3 ended with a next name.
 #[repr(C)]
 #[derive(Clone, Copy, Debug, PartialEq)]
@@ -210,7 +219,7 @@ unsafe extern "C" {
         key: u16,
         frame: f32,
         value: f32,
-    ) -> Played;
+    ) -> Edited;
     pub fn menu_slope_edit(
         player: Player,
         sheet: *const u8,
@@ -224,7 +233,7 @@ unsafe extern "C" {
         track: u16,
         key: u16,
         slope: f32,
-    ) -> Played;
+    ) -> Edited;
     pub fn menu_undo(
         player: Player,
         sheet: *const u8,
@@ -285,7 +294,7 @@ unsafe extern "C" {
         slopes_len: usize,
         frame: f32,
         value: f32,
-    ) -> Played;
+    ) -> Edited;
     pub fn menu_drop_drag(
         player: Player,
         sheet: *const u8,
@@ -296,7 +305,7 @@ unsafe extern "C" {
         values_len: usize,
         slopes: *const f32,
         slopes_len: usize,
-    ) -> Played;
+    ) -> Edited;
     pub fn menu_abandon_drag(
         player: Player,
         sheet: *const u8,

@@ -15,16 +15,16 @@ const WITHOUT_KEYS: [(&str, Call); 3] = [
 /// Calls that take a player and keys. Each has a mistake that a later row would decline, where there is one.
 const WITH_KEYS: [(&str, Call); 16] = [
     ("key edit", |p, s, _, k| {
-        p.key_edit(s, k, 9, 9, f32::NAN, 0.0)
+        p.key_edit(s, k, 9, 9, f32::NAN, 0.0).map(drop)
     }),
     ("slope edit", |p, s, _, k| {
-        p.slope_edit(s, k, 9, 9, f32::NAN)
+        p.slope_edit(s, k, 9, 9, f32::NAN).map(drop)
     }),
     ("undo", |p, s, _, k| p.undo(s, k)),
     ("redo", |p, s, _, k| p.redo(s, k)),
     ("open", |p, s, _, k| p.open_drag(s, k, 9, 9)),
-    ("drag", |p, s, _, k| p.drag(s, k, f32::NAN, 0.0)),
-    ("drop", |p, s, _, k| p.drop_drag(s, k)),
+    ("drag", |p, s, _, k| p.drag(s, k, f32::NAN, 0.0).map(drop)),
+    ("drop", |p, s, _, k| p.drop_drag(s, k).map(drop)),
     ("abandon", |p, s, _, k| p.abandon_drag(s, k)),
     ("save", |p, s, _, k| p.save_into(s, k, &mut [])),
     ("pane", |p, s, b, k| {
@@ -163,10 +163,11 @@ fn a_neighbour_that_has_moved() {
     assert_declined(&player, &sheet, &keys, true);
     // Rows 3 and 4 come before it.
     keys.frames[6] = 8.0;
-    let rules = answer(|p, s, _, k| p.drop_drag(s, k), &player, &sheet, &keys);
+    let drop_drag: Call = |p, s, _, k| p.drop_drag(s, k).map(drop);
+    let rules = answer(drop_drag, &player, &sheet, &keys);
     assert_eq!(rules, Err(Refusal::KeyRules));
     keys.slopes.pop();
-    let lengths = answer(|p, s, _, k| p.drop_drag(s, k), &player, &sheet, &keys);
+    let lengths = answer(drop_drag, &player, &sheet, &keys);
     assert_eq!(lengths, Err(Refusal::KeyLengths));
 }
 

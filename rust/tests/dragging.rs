@@ -4,7 +4,7 @@ mod common;
 
 use common::{KEY, PLACE, TRACK, bits, posed};
 use dovebolt::raw::Drag;
-use dovebolt::{Keys, MaterialChannel, PaneChannel, Player, Reading, Refusal, example};
+use dovebolt::{Edited, Keys, MaterialChannel, PaneChannel, Player, Reading, Refusal, example};
 
 /// Animation 0's frame in these tests: after its Step curves' second keys and before its Hermite curve's.
 const FRAME: f32 = 6.0;
@@ -50,7 +50,7 @@ fn forty_drags_are_one_edit() {
         expected.drag.moved = true;
         assert_eq!(*player.as_raw(), expected, "after drag {n}");
     }
-    player.drop_drag(&sheet, &keys).unwrap();
+    assert_eq!(player.drop_drag(&sheet, &keys), Ok(Edited::Made));
     assert_closed(&player);
     assert_eq!(key_at(&keys, PLACE), [5.0, -40.0, 0.5]);
     let dropped = bits(&keys);
@@ -73,8 +73,8 @@ fn forty_drags_are_one_edit() {
 }
 
 /// Whatever came before it, a drag gives the key that one edit would have made of the opening key, and a drop after it
-/// the player that this edit would have left. Every key of the sheet, with frames that are held to a neighbour, Step
-/// values that are rounded and Constant frames that stay.
+/// the answer and the player of this edit. Every key of the sheet, with frames that are held to a neighbour, Step values
+/// that are rounded, Constant frames that stay, and a return to the opening key.
 #[test]
 fn a_drop_is_the_edit_of_the_last_drag() {
     let requests = [
@@ -85,8 +85,8 @@ fn a_drop_is_the_edit_of_the_last_drag() {
         (3.995, -1.0),
         (5.5, f32::MAX),
     ];
-    for (track, keys_of_track) in [(0, 2), (1, 2), (2, 1), (3, 2), (4, 2)] {
-        for key in 0..keys_of_track {
+    for (track, places) in [(0, 0..2), (1, 2..4), (2, 4..5), (3, 5..7), (4, 7..9)] {
+        for (key, place) in (0..).zip(places) {
             let (sheet, mut player, mut keys) = posed(FRAME);
             edited(&sheet, &mut player, &mut keys);
             player
@@ -94,16 +94,17 @@ fn a_drop_is_the_edit_of_the_last_drag() {
                 .unwrap();
             let (was, were) = (player.clone(), keys.clone());
             player.open_drag(&sheet, &keys, track, key).unwrap();
-            for (frame, value) in requests {
+            let back = (were.frames[place], were.values[place]);
+            for (frame, value) in requests.into_iter().chain([back]) {
                 let request = format!("track {track} key {key} to ({frame}, {value})");
                 let (mut other, mut other_keys) = (was.clone(), were.clone());
-                other
+                let answer = other
                     .key_edit(&sheet, &mut other_keys, track, key, frame, value)
                     .unwrap();
                 player.drag(&sheet, &mut keys, frame, value).unwrap();
                 assert_eq!(bits(&keys), bits(&other_keys), "{request}");
                 let mut dropped = player.clone();
-                dropped.drop_drag(&sheet, &keys).unwrap();
+                assert_eq!(dropped.drop_drag(&sheet, &keys), Ok(answer), "{request}");
                 assert_eq!(state(&dropped), state(&other), "{request}");
             }
         }
@@ -149,7 +150,7 @@ fn a_full_redo_list_is_kept() {
     assert_eq!(state(&player), was);
 
     player.open_drag(&sheet, &keys, TRACK, KEY).unwrap();
-    player.drop_drag(&sheet, &keys).unwrap();
+    assert_eq!(player.drop_drag(&sheet, &keys), Ok(Edited::Unchanged));
     assert_closed(&player);
     assert_eq!(state(&player), was);
 
@@ -225,7 +226,7 @@ fn declined_drags_do_not_count() {
         assert_eq!(declined, Err(Refusal::Overtakes));
         assert!(!player.dragging().unwrap().moved);
     }
-    player.drop_drag(&sheet, &keys).unwrap();
+    assert_eq!(player.drop_drag(&sheet, &keys), Ok(Edited::Unchanged));
     assert_eq!((state(&player), bits(&keys)), (was, were));
 }
 

@@ -33,6 +33,10 @@ fn sizes() {
         (3672, 8)
     );
     assert_eq!(
+        (size_of::<raw::Edited>(), align_of::<raw::Edited>()),
+        (3672, 8)
+    );
+    assert_eq!(
         (size_of::<raw::Ticked>(), align_of::<raw::Ticked>()),
         (3672, 8)
     );
@@ -84,6 +88,7 @@ fn offsets() {
         [0, 1, 2, 4, 8, 12, 16]
     );
     assert_eq!(offsets!(raw::Played: refusal, player), [0, 8]);
+    assert_eq!(offsets!(raw::Edited: refusal, unchanged, player), [0, 1, 8]);
     assert_eq!(offsets!(raw::Ticked: refusal, answer, player), [0, 1, 8]);
 }
 
@@ -176,6 +181,36 @@ fn journal() {
         after_slope: rows([0.5, 0.5]),
     };
     assert_eq!(player.as_raw().journal, expected);
+}
+
+/// Declined, unchanged and made.
+#[test]
+fn edited() {
+    let (sheet, mut player, mut keys) = loaded();
+    player.pose(&sheet, Some(1), 0.0).unwrap();
+    let mut answer = |slope| {
+        // SAFETY: each pointer is followed by its array's length.
+        let answer = unsafe {
+            raw::menu_slope_edit(
+                *player.as_raw(),
+                sheet.as_ptr(),
+                sheet.len(),
+                keys.frames.as_mut_ptr(),
+                keys.frames.len(),
+                keys.values.as_mut_ptr(),
+                keys.values.len(),
+                keys.slopes.as_mut_ptr(),
+                keys.slopes.len(),
+                TRACK,
+                KEY,
+                slope,
+            )
+        };
+        (answer.refusal, answer.unchanged, answer.player.accepted)
+    };
+    assert_eq!(answer(f32::NAN), (8, false, 0));
+    assert_eq!(answer(0.0), (0, true, 0));
+    assert_eq!(answer(0.5), (0, false, 1));
 }
 
 /// Fresh, opened, moved and dropped. The key has a slope of its own, so that the three starting numbers differ.

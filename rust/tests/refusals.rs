@@ -27,16 +27,20 @@ const CALLS: [(Refusal, Call); 15] = [
         Player::from_raw(state).play(s, Some(0))
     }),
     (Refusal::Animation, |p, s, _| p.play(s, Some(2))),
-    (Refusal::NoSuch, |p, s, k| p.key_edit(s, k, 4, 0, 1.0, 1.0)),
+    (Refusal::NoSuch, |p, s, k| {
+        p.key_edit(s, k, 4, 0, 1.0, 1.0).map(drop)
+    }),
     (Refusal::NotFinite, |p, s, _| {
         p.pose(s, Some(0), f32::INFINITY)
     }),
     (Refusal::Overtakes, |p, s, k| {
         let mut early = k.clone();
         (early.frames[5], early.frames[6]) = (-5.0, -1.0);
-        p.key_edit(s, &mut early, 3, 0, -4.0, 0.0)
+        p.key_edit(s, &mut early, 3, 0, -4.0, 0.0).map(drop)
     }),
-    (Refusal::NotHermite, |p, s, k| p.slope_edit(s, k, 0, 0, 1.0)),
+    (Refusal::NotHermite, |p, s, k| {
+        p.slope_edit(s, k, 0, 0, 1.0).map(drop)
+    }),
     (Refusal::NothingToReturn, |p, s, k| p.redo(s, k)),
     (Refusal::Angle, |_, _, _| {
         let steep = Vector3f {
@@ -154,13 +158,17 @@ fn saving_looks_at_the_buffer_last() {
 
 /// The calls that row 15 is about, and whether it declines them while a drag is open or while none is.
 const BY_DRAG: [(&str, bool, Call); 8] = [
-    ("key edit", true, |p, s, k| p.key_edit(s, k, 3, 1, 5.0, 9.0)),
-    ("slope edit", true, |p, s, k| p.slope_edit(s, k, 3, 1, 0.5)),
+    ("key edit", true, |p, s, k| {
+        p.key_edit(s, k, 3, 1, 5.0, 9.0).map(drop)
+    }),
+    ("slope edit", true, |p, s, k| {
+        p.slope_edit(s, k, 3, 1, 0.5).map(drop)
+    }),
     ("undo", true, |p, s, k| p.undo(s, k)),
     ("redo", true, |p, s, k| p.redo(s, k)),
     ("open", true, |p, s, k| p.open_drag(s, k, 3, 1)),
-    ("drag", false, |p, s, k| p.drag(s, k, 5.0, 9.0)),
-    ("drop", false, |p, s, k| p.drop_drag(s, k)),
+    ("drag", false, |p, s, k| p.drag(s, k, 5.0, 9.0).map(drop)),
+    ("drop", false, |p, s, k| p.drop_drag(s, k).map(drop)),
     ("abandon", false, |p, s, k| p.abandon_drag(s, k)),
 ];
 
@@ -203,29 +211,29 @@ fn a_drag_is_open_or_none_is() {
 fn the_place_of_15() {
     let (sheet, mut player, mut keys) = with_drag(true);
     let (s, k) = (&sheet, &mut keys);
-    let drag = Err(Refusal::DragState);
+    let drag = Some(Refusal::DragState);
     // The dragged key is not as its edit left it: row 5 of an undo, were no drag open.
-    assert_eq!(player.undo(s, k), drag);
-    assert_eq!(player.open_drag(s, k, 3, 2), drag);
-    assert_eq!(player.open_drag(s, k, 4, 0), drag);
-    assert_eq!(player.key_edit(s, k, 4, 0, 1.0, 1.0), drag);
-    assert_eq!(player.key_edit(s, k, 3, 1, f32::NAN, 1.0), drag);
-    assert_eq!(player.slope_edit(s, k, 4, 0, 1.0), drag);
-    assert_eq!(player.slope_edit(s, k, 0, 0, f32::NAN), drag);
-    assert_eq!(player.slope_edit(s, k, 0, 0, 1.0), drag);
-    let none = Err(Refusal::Animation);
+    assert_eq!(player.undo(s, k).err(), drag);
+    assert_eq!(player.open_drag(s, k, 3, 2).err(), drag);
+    assert_eq!(player.open_drag(s, k, 4, 0).err(), drag);
+    assert_eq!(player.key_edit(s, k, 4, 0, 1.0, 1.0).err(), drag);
+    assert_eq!(player.key_edit(s, k, 3, 1, f32::NAN, 1.0).err(), drag);
+    assert_eq!(player.slope_edit(s, k, 4, 0, 1.0).err(), drag);
+    assert_eq!(player.slope_edit(s, k, 0, 0, f32::NAN).err(), drag);
+    assert_eq!(player.slope_edit(s, k, 0, 0, 1.0).err(), drag);
+    let none = Some(Refusal::Animation);
     player.pose(s, None, 0.0).unwrap();
-    assert_eq!(player.open_drag(s, k, 3, 1), none);
-    assert_eq!(player.key_edit(s, k, 3, 1, 5.0, 9.0), none);
-    assert_eq!(player.slope_edit(s, k, 3, 1, 0.5), none);
+    assert_eq!(player.open_drag(s, k, 3, 1).err(), none);
+    assert_eq!(player.key_edit(s, k, 3, 1, 5.0, 9.0).err(), none);
+    assert_eq!(player.slope_edit(s, k, 3, 1, 0.5).err(), none);
 
     // None is open and nothing active; 6 is no row of the three.
     let (mut player, mut keys) = Player::load(s).unwrap();
     let k = &mut keys;
-    assert_eq!(player.open_drag(s, k, 3, 1), none);
-    assert_eq!(player.drag(s, k, f32::NAN, 0.0), drag);
-    assert_eq!(player.drop_drag(s, k), drag);
-    assert_eq!(player.abandon_drag(s, k), drag);
+    assert_eq!(player.open_drag(s, k, 3, 1).err(), none);
+    assert_eq!(player.drag(s, k, f32::NAN, 0.0).err(), drag);
+    assert_eq!(player.drop_drag(s, k).err(), drag);
+    assert_eq!(player.abandon_drag(s, k).err(), drag);
 
     // Nothing to undo or to redo, and a key or a track that the active animation doesn't have.
     player.pose(s, Some(0), 0.0).unwrap();
@@ -233,6 +241,6 @@ fn the_place_of_15() {
     assert_eq!(player.open_drag(s, k, 4, 0), Err(Refusal::NoSuch));
     assert_eq!(player.open_drag(s, k, 5, 0), Err(Refusal::NoSuch));
     player.open_drag(s, k, 3, 1).unwrap();
-    assert_eq!(player.undo(s, k), drag);
-    assert_eq!(player.redo(s, k), drag);
+    assert_eq!(player.undo(s, k).err(), drag);
+    assert_eq!(player.redo(s, k).err(), drag);
 }

@@ -1,4 +1,4 @@
-// Makes a call and writes its answer: `ok`, what was asked for, or the refusal in words.
+// Makes a call and writes its answer: `ok` or `unchanged`, what was asked for, or the refusal in words.
 mod resolved;
 mod shown;
 mod state;
@@ -17,6 +17,7 @@ use cli_calls::SLOPE;
 use cli_calls::TICK;
 use cli_calls::UNDO;
 use cli_printed::say;
+use menu::Edited;
 use menu::Played;
 use player::Player;
 use player::Tick;
@@ -29,7 +30,25 @@ fn refused(n: u8) {
     say(b"\n");
 }
 
-// A call that only changes the player or the keys.
+// An edit of a key, a drag or a drop.
+fn edit(
+    p: Player,
+    c: Call,
+    s: &[u8],
+    frames: &mut [f32],
+    values: &mut [f32],
+    slopes: &mut [f32],
+) -> Edited {
+    let verb = c.verb;
+    match verb {
+        KEY => menu::key_edit(p, s, frames, values, slopes, c.first, c.second, c.x, c.y),
+        SLOPE => menu::slope_edit(p, s, frames, values, slopes, c.first, c.second, c.x),
+        DRAG => menu::drag(p, s, frames, values, slopes, c.x, c.y),
+        _ => menu::drop_drag(p, s, frames, values, slopes),
+    }
+}
+
+// Another call that only changes the player or the keys.
 fn change(
     p: Player,
     c: Call,
@@ -42,27 +61,28 @@ fn change(
     match verb {
         PLAY => menu::play(p, s, c.first),
         POSE => menu::pose(p, s, c.first, c.x),
-        KEY => menu::key_edit(p, s, frames, values, slopes, c.first, c.second, c.x, c.y),
-        SLOPE => menu::slope_edit(p, s, frames, values, slopes, c.first, c.second, c.x),
         UNDO => menu::undo(p, s, frames, values, slopes),
         OPEN => menu::open_drag(p, s, frames, values, slopes, c.first, c.second),
-        DRAG => menu::drag(p, s, frames, values, slopes, c.x, c.y),
-        DROP => menu::drop_drag(p, s, frames, values, slopes),
         ABANDON => menu::abandon_drag(p, s, frames, values, slopes),
         _ => menu::redo(p, s, frames, values, slopes),
     }
 }
 
+// A drag and a drop are of the key that is held.
+fn is_held(verb: u8) -> bool {
+    (verb == DRAG) | (verb == DROP)
+}
+
+fn edits(verb: u8) -> bool {
+    (verb == KEY) | (verb == SLOPE) | is_held(verb)
+}
+
 fn changes(verb: u8) -> bool {
     (verb == PLAY)
         | (verb == POSE)
-        | (verb == KEY)
-        | (verb == SLOPE)
         | (verb == UNDO)
         | (verb == REDO)
         | (verb == OPEN)
-        | (verb == DRAG)
-        | (verb == DROP)
         | (verb == ABANDON)
 }
 
@@ -99,6 +119,27 @@ fn say_change(refusal: u8) {
     say(b"ok\n");
 }
 
+// An accepted edit tells the key as it is stored: `p` is the player before it, which says what key is held.
+fn say_edit(p: Player, c: Call, r: Edited, s: &[u8], frames: &[f32], values: &[f32], slopes: &[f32])
+    requires { ⌜ Checked (now s) ⌝ }
+{
+    if r.refusal != 0 {
+        refused(r.refusal);
+        return;
+    }
+    if r.unchanged {
+        say(b"unchanged");
+    } else {
+        say(b"ok");
+    }
+    let d = p.drag;
+    if is_held(c.verb) {
+        tracks::say_key(s, d.track, d.key, frames, values, slopes);
+        return;
+    }
+    tracks::say_key(s, c.first, c.second, frames, values, slopes);
+}
+
 // The player after a call, whose answer is written.
 pub fn answer<'a>(
     p: Player,
@@ -113,6 +154,11 @@ pub fn answer<'a>(
 {
     if c.verb == TICK {
         return tick(p, s, c.x, c.y);
+    }
+    if edits(c.verb) {
+        let r = edit(p, c, s, frames, values, slopes);
+        say_edit(p, c, r, s, frames, values, slopes);
+        return r.player;
     }
     if changes(c.verb) {
         let r = change(p, c, s, frames, values, slopes);

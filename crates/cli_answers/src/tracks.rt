@@ -1,4 +1,4 @@
-// The lent keys, track by track.
+// The lent keys, one of them or track by track.
 use cli_printed::say;
 use cli_printed::say_count;
 use cli_printed::say_number;
@@ -10,6 +10,26 @@ fn say_key_number(what: &[u8], numbers: &[f32], at: usize) {
     if at < numbers.len() {
         say(what);
         say_number(numbers[at]);
+    }
+}
+
+// A key's numbers, and the line's end.
+fn say_numbers(frames: &[f32], values: &[f32], slopes: &[f32], at: usize) {
+    say_key_number(b" frame ", frames, at);
+    say_key_number(b" value ", values, at);
+    say_key_number(b" slope ", slopes, at);
+    say(b"\n");
+}
+
+// A track's key as it is stored.
+pub fn say_key(s: &[u8], track: u16, key: u16, frames: &[f32], values: &[f32], slopes: &[f32])
+    requires { ⌜ Checked (now s) ⌝ }
+{
+    let i = track as usize;
+    if i < sheet::target_count(s) {
+        let row = sheet::target_row(s, i);
+        let at = std::num::wrapping_add_usize(row.first, key as usize);
+        say_numbers(frames, values, slopes, at);
     }
 }
 
@@ -28,10 +48,7 @@ fn say_track(s: &[u8], track: usize, frames: &[f32], values: &[f32], slopes: &[f
         say(b" key ");
         say_count(i as u64);
         let at = std::num::wrapping_add_usize(first, i);
-        say_key_number(b" frame ", frames, at);
-        say_key_number(b" value ", values, at);
-        say_key_number(b" slope ", slopes, at);
-        say(b"\n");
+        say_numbers(frames, values, slopes, at);
     }
 }
 

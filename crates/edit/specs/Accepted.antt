@@ -314,7 +314,7 @@ module _ {s : List ℕ} (w : Checked s) (ks : Keys) (ok : keysOkOf s ks ≡ true
 -- ---- f32 stay f32
 
 -- the key that an accepted request makes, of keys that are f32
-request-held : (s : List ℕ) (ks : Keys) (track key : ℕ) (r : Request) → HeldKeys ks → HeldRequest r → declines (requestRows (ks .frames) (spotOf s track key) r) ≡ 0 → HeldKey (edited s ks track key r)
+pub request-held : (s : List ℕ) (ks : Keys) (track key : ℕ) (r : Request) → HeldKeys ks → HeldRequest r → declines (requestRows (ks .frames) (spotOf s track key) r) ≡ 0 → HeldKey (edited s ks track key r)
 unfolding edited editedAt keyAt requestRows editedFrame editedValue
 request-held s ks track key (request.Key x v) k h e =
     let p = spotOf s track key in

@@ -1,5 +1,5 @@
 -- Edits of one key (document 01, "Playing and editing"; the Rust's apply_key_edit and apply_slope_edit): where the key is, the key that a request
--- makes, and when it is declined (rows 6 to 10 and 15 of the table). Definitions only.
+-- makes, when it leaves the key as it is, and when it is declined (rows 6 to 10 and 15 of the table). Definitions only.
 use Prim.Native.Nat.{ℕ, _+_, _-_}
 use mathlib.Core.Bool.{Bool, not, _&&_, cond}
 use mathlib.Core.List.{List, [], _∷_, _++_}
@@ -18,7 +18,7 @@ use Rattle.curve.specs.Curve.{kindConstant, kindStep, kindHermite}
 use Rattle.edit.specs.declared.request.Request.{Request}
 use Rattle.edit.specs.declared.request.Request.the-variants as request
 use Rattle.edit.specs.declared.spot.Spot.{Spot}
-use Rattle.edit.specs.Keys.{Keys, keyAt, putKey}
+use Rattle.edit.specs.Keys.{Keys, keyAt, putKey, sameKey}
 
 -- the animation's number that stands for none
 abbrev pub none : ℕ
@@ -69,6 +69,10 @@ editedAt ks p (request.Slope m) = record { frame = keyAt ks (p .at) .frame; valu
 
 unfoldable pub edited : List ℕ → Keys → ℕ → ℕ → Request → Key
 edited s ks track key r = editedAt ks (spotOf s track key) r
+
+-- Unchanged (document 02, 4/13): "frame, value and slope have the same bits as before". The key that is made is compared, after clamp and rounding.
+unfoldable pub unchanged : List ℕ → Keys → ℕ → ℕ → Request → Bool
+unchanged s ks track key r = sameKey (edited s ks track key r) (keyAt ks (place s track key))
 
 -- the keys with an edit made
 unfoldable pub madeEdit : List ℕ → Keys → Edit → Keys

@@ -12,7 +12,7 @@ use Rattle.keys.specs.Load.{arraysOk, lengthsOk}
 use Rattle.edit.specs.Keys.{Keys, put-length}
 use Rattle.edit.specs.Edit.{Edit, hasKey, place, edited, spotOf, madeEdit, requestRows}
 use Rattle.edit.specs.Put.{has-key, place-within, here-fits, fits-same}
-use Rattle.edit.specs.Accepted.{HeldRequest, edit-fits, edit-keeps, edit-held}
+use Rattle.edit.specs.Accepted.{HeldRequest, edit-fits, edit-keeps, request-held, edit-held}
 use Rattle.menu.specs.Calls.{entryFor}
 use Rattle.machine.proofs.Invariant.{Sane, Fair}
 
@@ -39,6 +39,7 @@ module _ (s : List ℕ) (ok : sheetOk s ≡ true) (ks : Keys) (sane : Sane s ks)
         entry = has;
         old = fits-same (ks .frames) (spotOf s (e .track) (e .key)) _ (here-fits w ks (sane .rules) (e .track) (e .key) (there .0) (there .1));
         new = fits-same (ks .frames) (spotOf s (e .track) (e .key)) _ (edit-fits w ks (sane .rules) (sane .held .frames) (e .track) (e .key) has (e .request) held n);
+        f32 = request-held s ks (e .track) (e .key) (e .request) (sane .held) held n;
         sane = sane;
         made =
             record {

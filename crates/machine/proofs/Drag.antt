@@ -1,6 +1,6 @@
 -- Opening, dragging, dropping and abandoning keep the player an image of the machine. Assumes nothing.
 use mathlib.Core.Path.{_≡_, refl}
-use mathlib.Core.Bool.{true, false}
+use mathlib.Core.Bool.{Bool, true, false}
 use mathlib.Core.List.{List}
 use Prim.Native.Nat.{ℕ, zero, suc, _<_, _^_}
 use native.Mathlib.Omega.{arith}
@@ -11,13 +11,16 @@ use lib.Ieee.{Float, binary32, fits}
 use Rattle.laws.specs.Rows.{unless, declines}
 use Rattle.sheet.specs.Sheet.{sheetOk}
 use Rattle.player.specs.declared.journal.Journal.{Journal}
+use Rattle.edit.specs.declared.request.Request.{Request}
 use Rattle.edit.specs.declared.request.Request.the-variants as request
-use Rattle.edit.specs.Keys.{Keys, putKey, get-put}
-use Rattle.edit.specs.Edit.{hasKey, place, spotOf, edited, madeEdit, requestRows, trackRows}
+use Rattle.edit.specs.Keys.{Keys, keyAt, putKey, sameKey, get-put}
+use Rattle.edit.specs.Edit.{hasKey, place, spotOf, edited, unchanged, madeEdit, requestRows, trackRows}
 use Rattle.edit.specs.Accepted.{tracked-key}
 use Rattle.edit.specs.Over.{rows-over, made-over}
+use Rattle.edit.specs.Unchanged.{unchanged-leaves}
 use Rattle.player.specs.Journal.{withRow}
 use Rattle.player.specs.Edited.{editedPlayer}
+use Rattle.player.specs.Drag.{dropUnchanged}
 use Rattle.player.specs.Dragged.{droppedPlayer}
 use Rattle.menu.specs.Rows.{openTable, dragRows, dragTable, closeTable}
 use Rattle.menu.specs.Calls.{entryFor, openOf, dragOf, dropOf, abandonOf}
@@ -125,20 +128,41 @@ module _ (s : List ℕ) (n : ℕ) (m : Plain) (j : Journal) (ok : sheetOk s ≡ 
     drag-kept (dragged a track key y w) g = from-dragged a track key y w (asks track key) g refl
 
   -- ---- dropping
+  -- of a dragged key: unchanged, it is the key of the opening, so the keys are the standing ones again; any other drop is appended
+  module _ (a track key : ℕ) (x v : Float) (g : Good s n (M (dragged a track key x v)) j) where
+    abbrev r : Request
+    r = request.Key x v
+
+    other-bits : unchanged s ks track key r ≡ false → sameKey (edited s ks track key r) (keyAt ks (place s track key)) ≡ false
+    unfolding unchanged
+    other-bits u = u
+
+    dropped-by : (same : Bool) → unchanged s ks track key r ≡ same → Kept s n dropDrag (M (dragged a track key x v)) j
+    unfolding dropOf closeTable droppedPlayer dropUnchanged declines unless
+    dropped-by true u =
+        let f = g .drag in
+        let back = unchanged-leaves s ks track key r (g .sane .held) (f .f32) u in
+        record {
+          journal = j;
+          same = unfold madeEdit in rw (state-passes s n (M (dragged a track key x v)) j ok (omega arith) g _, back, f .old, u);
+          good = rw u (holding-good (dragged a track key x v) closed g tt);
+        }
+    dropped-by false u =
+        record {
+          journal = withRow j (length (m .standing)) (entryFor s ks track key r);
+          same =
+              unfold replay madeEdit editedPlayer entryFor in
+              rw (state-passes s n (M (dragged a track key x v)) j ok (omega arith) g _, get-put ks (place s track key) (edited s ks track key r) (g .drag .within), other-bits u, u)
+              (cc (add-one (length (m .standing))));
+          good = rw u (append-good s n (M (dragged a track key x v)) j g (draggedTo a track key x v) (g .drag) u);
+        }
+
   pub drop-kept : (d : Dragging) → Good s n (M d) j → Kept s n dropDrag (M d) j
-  unfolding dropOf closeTable droppedPlayer declines unless
+  unfolding dropOf closeTable droppedPlayer dropUnchanged declines unless
   drop-kept closed g = record { journal = j; same = rw (state-passes s n (M closed) j ok (omega arith) g _); good = later s n (M closed) j g }
   drop-kept (opened a track key) g =
       record { journal = j; same = rw (state-passes s n (M (opened a track key)) j ok (omega arith) g _); good = holding-good (opened a track key) closed g tt }
-  drop-kept (dragged a track key x v) g =
-      record {
-        journal = withRow j (length (m .standing)) (entryFor s ks track key (request.Key x v));
-        same =
-            unfold replay madeEdit editedPlayer entryFor in
-            rw (state-passes s n (M (dragged a track key x v)) j ok (omega arith) g _, get-put ks (place s track key) (edited s ks track key (request.Key x v)) (g .drag .within))
-            (cc (add-one (length (m .standing))));
-        good = append-good s n (M (dragged a track key x v)) j g (draggedTo a track key x v) (g .drag);
-      }
+  drop-kept (dragged a track key x v) g = dropped-by a track key x v g (unchanged s ks track key (request.Key x v)) refl
 
   -- ---- abandoning
   pub abandon-kept : (d : Dragging) → Good s n (M d) j → Kept s n abandonDrag (M d) j

@@ -1,6 +1,6 @@
 -- An edit keeps the player an image of the machine. Assumes nothing.
 use mathlib.Core.Path.{_≡_, refl}
-use mathlib.Core.Bool.{true, false, false≢true}
+use mathlib.Core.Bool.{Bool, true, false, false≢true}
 use mathlib.Core.List.{List}
 use Prim.Native.Nat.{ℕ, zero, suc, _+_, _<_, _^_, min}
 use native.Mathlib.Omega.{arith}
@@ -12,7 +12,7 @@ use Rattle.player.specs.declared.journal.Journal.{Journal}
 use Rattle.edit.specs.declared.request.Request.{Request}
 use Rattle.edit.specs.Keys.{Keys}
 use Rattle.player.specs.Journal.{withRow, row-same, whole-write, rows}
-use Rattle.edit.specs.Edit.{Edit, spotOf, madeEdit, requestRows, trackRows, editRows}
+use Rattle.edit.specs.Edit.{Edit, spotOf, unchanged, madeEdit, requestRows, trackRows, editRows}
 use Rattle.edit.specs.Accepted.{HeldRequest, accepted-key}
 use Rattle.player.specs.Edited.{editedPlayer}
 use Rattle.menu.specs.Rows.{editTable}
@@ -27,10 +27,10 @@ use Rattle.machine.proofs.Kept.{Kept, suc-not, later}
 
 module _ (s : List ℕ) (n : ℕ) (m : Plain) (j : Journal) (g : Good s n m j) where
   -- an edit is appended: its row is written, and the rows of the newest 127 before it stay
-  pub append-good : (e : Edit) → Fair s (standingKeys s m) e
+  pub append-good : (e : Edit) → Fair s (standingKeys s m) e → unchanged s (standingKeys s m) (e .track) (e .key) (e .request) ≡ false
       → Good s (suc n) (appended m e) (withRow j (length (m .standing)) (entryFor s (standingKeys s m) (e .track) (e .key) (e .request)))
   unfolding replay
-  append-good e f =
+  append-good e f u =
       let k = length (m .standing) in
       let x = entryFor s (standingKeys s m) (e .track) (e .key) (e .request) in
       let grows : min (m .reach + 1) rows ≡ suc (min (m .reach) 127) = omega arith in
@@ -41,7 +41,7 @@ module _ (s : List ℕ) (n : ℕ) (m : Plain) (j : Journal) (g : Good s n m j) w
         seen = g .seen;
         back =
             rw grows (
-              record { is = row-same j k x (g .whole); fair = f },
+              record { is = row-same j k x (g .whole); fair = f; changed = u },
               kept s j (m .loaded) k x (m .standing) (min (m .reach) 127) (omega arith) (omega arith)
                   (less s j (m .loaded) (m .standing) (m .reach) (min (m .reach) 127) (omega arith) (g .back)),
             );
@@ -70,6 +70,23 @@ module _ (s : List ℕ) (n : ℕ) (m : Plain) (j : Journal) (ok : sheetOk s ≡ 
   abbrev refusal : Dragging → ℕ
   refusal d = declines (editRows s (m .view .selection) (isOpen d) (keysOf s (M d)) track key r)
 
+  -- nothing is declined: an unchanged edit leaves all as it is, any other is appended
+  by-unchanged : (same : Bool) → Good s n (M closed) j → refusal closed ≡ 0 → unchanged s (standingKeys s m) track key r ≡ same → Kept s n (edit track key r) (M closed) j
+  unfolding editOf editTable
+  by-unchanged true g e u =
+      record {
+        journal = j;
+        same = rw (state-passes s n (M closed) j ok (omega arith) g _, e, u);
+        good = rw (e, u) (later s n (M closed) j g);
+      }
+  by-unchanged false g e u =
+      let a = accepted-key s (m .view .selection) false track key (standingKeys s m) r e in
+      record {
+        journal = withRow j (length (m .standing)) (entryFor s (standingKeys s m) track key r);
+        same = unfold replay madeEdit editedPlayer in rw (state-passes s n (M closed) j ok (omega arith) g _, e, u) (cc (add-one (length (m .standing))));
+        good = rw (e, u) (append-good s n (M closed) j g (asked m track key r) (allows s ok (standingKeys s m) (g .sane) (asked m track key r) held (a .0) (a .1)) u);
+      }
+
   by-refusal : (d : Dragging) (k : ℕ) → Good s n (M d) j → refusal d ≡ k → Kept s n (edit track key r) (M d) j
   unfolding editOf editTable
   by-refusal d (suc k) g e =
@@ -79,13 +96,7 @@ module _ (s : List ℕ) (n : ℕ) (m : Plain) (j : Journal) (ok : sheetOk s ≡ 
         same = rw (state-passes s n (M d) j ok (omega arith) g _, q, e, suc-not k);
         good = rw e (later s n (M d) j g);
       }
-  by-refusal closed zero g e =
-      let a = accepted-key s (m .view .selection) false track key (standingKeys s m) r e in
-      record {
-        journal = withRow j (length (m .standing)) (entryFor s (standingKeys s m) track key r);
-        same = unfold replay madeEdit editedPlayer in rw (state-passes s n (M closed) j ok (omega arith) g _, e) (cc (add-one (length (m .standing))));
-        good = rw e (append-good s n (M closed) j g (asked m track key r) (allows s ok (standingKeys s m) (g .sane) (asked m track key r) held (a .0) (a .1)));
-      }
+  by-refusal closed zero g e = by-unchanged (unchanged s (standingKeys s m) track key r) g e refl
   by-refusal (opened a t q) zero g e = absurd (none-edited s (m .view .selection) _ track key r e)
   by-refusal (dragged a t q x v) zero g e = absurd (none-edited s (m .view .selection) _ track key r e)
 

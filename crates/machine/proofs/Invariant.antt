@@ -1,6 +1,6 @@
 -- What ties a player to the plain machine: the player is an image of the machine, and its journal's used rows hold the entries of the edits. Assumes nothing.
 use mathlib.Core.Path.{_≡_, sym, _∙_, ap}
-use mathlib.Core.Bool.{true}
+use mathlib.Core.Bool.{true, false}
 use mathlib.Core.List.{List, [], _∷_}
 use mathlib.Core.Logic.{⊎-elim}
 use Prim.Native.Nat.{ℕ, zero, suc, _+_, _≤_, _<_, _%_}
@@ -13,12 +13,12 @@ use Rattle.player.specs.declared.Player.{Player}
 use Rattle.player.specs.declared.drag.Drag.{Drag}
 use Rattle.player.specs.declared.journal.Entry.{Entry}
 use Rattle.player.specs.declared.journal.Journal.{Journal}
-use Rattle.edit.specs.Keys.{Keys, HeldKeys, keyAt, Within, sameKey, keysOkOf}
+use Rattle.edit.specs.Keys.{Keys, HeldKeys, HeldKey, keyAt, Within, sameKey, keysOkOf}
 use Rattle.player.specs.Journal.{rowOf, withRow, Whole, row-other, rows}
 use Rattle.player.specs.Player.{selectionOk, entryOk}
 use Rattle.player.specs.Parts.{playerOf, View}
 use Rattle.player.specs.Drag.{noDrag, openedOn, movedOn}
-use Rattle.edit.specs.Edit.{Edit, hasKey, place, edited, madeEdit}
+use Rattle.edit.specs.Edit.{Edit, hasKey, place, edited, unchanged, madeEdit}
 use Rattle.menu.specs.Calls.{entryFor}
 use Rattle.machine.specs.Plain.{Dragging, closed, opened, dragged, draggedTo, Plain, replay, standingKeys}
 
@@ -34,13 +34,15 @@ pub record Fair (s : List ℕ) (ks : Keys) (e : Edit) : Type 0 where
   pub entry : entryOk s (entryFor s ks (e .track) (e .key) (e .request)) ≡ true
   pub old : sameKey (keyAt ks (place s (e .track) (e .key))) (keyAt ks (place s (e .track) (e .key))) ≡ true
   pub new : sameKey (edited s ks (e .track) (e .key) (e .request)) (edited s ks (e .track) (e .key) (e .request)) ≡ true
+  pub f32 : HeldKey (edited s ks (e .track) (e .key) (e .request))
   pub sane : Sane s ks
   pub made : Sane s (madeEdit s ks e)
 
--- the row of the edit e, made after the edits es, holds its entry
+-- the row of the edit e, made after the edits es, holds its entry, and e changed the key
 pub record JournalRow (s : List ℕ) (j : Journal) (ks : Keys) (es : List Edit) (e : Edit) : Type 0 where
   pub is : rowOf j (length es) ≡ entryFor s (replay s ks es) (e .track) (e .key) (e .request)
   pub fair : Fair s (replay s ks es) e
+  pub changed : unchanged s (replay s ks es) (e .track) (e .key) (e .request) ≡ false
 
 -- the rows of the newest r edits that stand
 abbrev pub Back : List ℕ → Journal → Keys → List Edit → ℕ → Type 0
@@ -116,7 +118,7 @@ module _ (s : List ℕ) (j : Journal) (ks : Keys) where
   kept k x es zero h l t = tt
   kept k x [] (suc r) h l t = t
   kept k x (e ∷ es) (suc r) h l t = (
-    record { is = row-other j k (length es) x (apart (length es) k (omega arith) (omega arith)) ∙ t .0 .is; fair = t .0 .fair },
+    record { is = row-other j k (length es) x (apart (length es) k (omega arith) (omega arith)) ∙ t .0 .is; fair = t .0 .fair; changed = t .0 .changed },
     kept k x es r (omega arith) (omega arith) (t .1),
   )
 

@@ -12,7 +12,7 @@ use Rattle.laws.specs.Table.{table}
 use Rattle.float.specs.Numbers.{sameBits}
 use Rattle.float.specs.Clamp.{clampOf, maxOf}
 use Rattle.float.specs.Rising.{notBelow, risingIn}
-use Rattle.float.specs.StepValue.{wholeIn16}
+use Rattle.float.specs.StepValue.{wholeIn16, stepValue}
 use Rattle.float.specs.Whole.{wholeOf}
 use Rattle.float.specs.Turn.{third, reduced, quotient, sineOf, cosineOf, wholePart, mod4}
 use Rattle.float.specs.SinCos.{sinCosOf}
@@ -43,18 +43,19 @@ use Rattle.resolve.specs.Resolve.{paneNumber, visibleOf, alphaOf}
 use Rattle.resolve.specs.Cascade.{under, above, rowFrom, cascade, visibles, alphas, influences}
 use Rattle.edit.specs.Keys.{keyAt, putKey, sameKey}
 use Rattle.player.specs.Player.{freshPlayer, selectionOk, usedOk, countsOk, playerOk}
-use Rattle.edit.specs.Edit.{hasKey, place, spotOf, lowest, highest, clampedFrame, editedFrame, editedValue, editedAt, edited, overtakes, requestRows, keyIn, trackRows, editRows}
+use Rattle.edit.specs.Edit.{hasKey, place, spotOf, lowest, highest, clampedFrame, editedFrame, editedValue, editedAt, edited, unchanged, overtakes, requestRows, keyIn, trackRows, editRows}
 use Rattle.player.specs.Journal as journal
-use Rattle.player.specs.Drag.{dragOk, putBack, dragFits}
+use Rattle.player.specs.Drag.{dropUnchanged, dragOk, putBack, dragFits}
 use Rattle.player.specs.Edited.{editedPlayer}
 use Rattle.player.specs.Dragged.{droppedPlayer}
-use Rattle.player.specs.Undo.{entryOf, takesOk, takeFits, takeRows, takenKeys, undonePlayer}
+use Rattle.player.specs.Undo.{entryOf, takesOk, takeFits, takeRows, takenKeys, undonePlayer, redonePlayer}
 use Rattle.player.specs.View.{playView, poseView, ticks, tickSum, countOf, wraps, tickFrame, tickMoves, tickEnds, endOf, tickView, tickAnswer}
 use Rattle.menu.specs.Rows.{playRows, poseRows, tickRows, saveRows, playTable, poseTable, tickTable, editTable, takeTable, dragRows, openTable, dragTable, closeTable, saveTable, nextNameTable}
 use Rattle.menu_readings.specs.Rows.{paneChannelRows, materialChannelRows, cascadeRows, readPaneTable, readMaterialTable, cascadeTable}
 use Rattle.menu.specs.Calls.{playOf, poseOf, tickOf, entryFor, editOf, takeOf, openOf, dragOf, dropOf, abandonOf, loadedOf, writtenBy, saveOf, nextNameOf}
 use Rattle.menu_readings.specs.Readings.{activeIn, oneOf, cascadedOf, readPaneOf, readMaterialOf, cascadeOf}
 use Rattle.machine.specs.Small as small
+use Rattle.machine.specs.Computed as computed
 use Rattle.machine.specs.Poses as poses
 
 laws : Unit {0}
@@ -62,7 +63,7 @@ unfolding allBelow firstBelow lastBelow sumBelow grow unless declines table
 laws = tt
 
 numbers : Unit {0}
-unfolding round ofBits toBits add sub mul div rem neg lt le eq ofInt toUnsigned isNan sameBits clampOf maxOf notBelow risingIn wholeIn16 wholeOf third reduced quotient sineOf cosineOf wholePart mod4 sinCosOf
+unfolding round ofBits toBits add sub mul div rem neg lt le eq ofInt toUnsigned isNan sameBits clampOf maxOf notBelow risingIn wholeIn16 stepValue wholeOf third reduced quotient sineOf cosineOf wholePart mod4 sinCosOf
 numbers = tt
 
 fields : Unit {0}
@@ -90,7 +91,7 @@ unfolding familyOf listed paneChannel colourPlace slotChannel materialChannel of
 readings = tt
 
 player : Unit {0}
-unfolding keyAt putKey freshPlayer selectionOk hasKey usedOk countsOk playerOk playView poseView ticks tickSum countOf wraps tickFrame tickMoves tickEnds endOf tickView tickAnswer place spotOf lowest highest clampedFrame editedFrame editedValue editedAt edited overtakes requestRows keyIn trackRows editRows dragOk putBack dragFits editedPlayer droppedPlayer journal.rowOf journal.withRow sameKey entryOf takesOk takeFits takeRows takenKeys undonePlayer
+unfolding keyAt putKey freshPlayer selectionOk hasKey usedOk countsOk playerOk playView poseView ticks tickSum countOf wraps tickFrame tickMoves tickEnds endOf tickView tickAnswer place spotOf lowest highest clampedFrame editedFrame editedValue editedAt edited unchanged overtakes requestRows keyIn trackRows editRows dropUnchanged dragOk putBack dragFits editedPlayer droppedPlayer journal.rowOf journal.withRow sameKey entryOf takesOk takeFits takeRows takenKeys undonePlayer redonePlayer
 player = tt
 
 calls : Unit {0}
@@ -98,7 +99,7 @@ unfolding playRows poseRows tickRows saveRows paneChannelRows materialChannelRow
 calls = tt
 
 pose-table : Unit {0}
-unfolding small.over small.below small.minus small.whole small.u16 small.f32 small.name small.allKeys small.contents small.targets small.frames small.points small.sheet small.followed small.following small.pane small.book poses.bits poses.told poses.readOne poses.met poses.ticked poses.seen poses.counted poses.played poses.loaded poses.posed poses.playing poses.viewing poses.readPane poses.readMaterial poses.paneTrack poses.colourTrack poses.moves poses.still poses.shows poses.colours poses.fades poses.curveAt poses.tickAt poses.playFrom5 poses.poseFrom5 poses.tickOn poses.endFrom poses.readBy poses.editTo poses.slopes poses.saveInto poses.dragged poses.uvUnder poses.topLeft poses.childAlpha poses.shared poses.poses poses.same poses.right
+unfolding small.over small.below small.minus small.whole small.u16 small.f32 small.name small.allKeys small.contents small.targets small.frames small.points small.sheet small.followed small.following small.pane small.book computed.bits computed.told computed.readOne computed.met computed.ticked computed.seen computed.counted computed.played computed.loaded computed.posed computed.playing computed.viewing computed.readPane computed.readMaterial computed.paneTrack computed.colourTrack computed.moves computed.still computed.shows computed.colours computed.fades computed.curveAt computed.tickAt computed.playFrom5 computed.poseFrom5 computed.tickOn computed.endFrom computed.readBy computed.editTo computed.slopes computed.saveInto computed.edits computed.start computed.answered computed.left computed.dragged computed.uvUnder computed.topLeft computed.childAlpha poses.returned poses.shared poses.poses poses.same poses.right
 pose-table = tt
 
 pub known : T (poses.right poses.poses)

@@ -18,6 +18,7 @@ pub mod Save
 pub mod Steps
 pub mod Loaded
 pub mod Theorem
+pub mod Unchanged
 pub mod Stays
 pub mod Saved
 pub mod Known

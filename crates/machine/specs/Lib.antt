@@ -4,4 +4,5 @@ pub mod Asks
 pub mod Calls
 pub mod Plain
 pub mod Small
+pub mod Computed
 pub mod Poses

@@ -1,4 +1,4 @@
--- The plain machine (document 01, "Playing and editing"; saving and dragging are document 02's, 1/13 and 2/13): fed the calls alone, it holds the
+-- The plain machine (document 01, "Playing and editing"; saving, dragging and unchanged edits are document 02's, 1/13, 2/13 and 4/13): fed the calls alone, it holds the
 -- loaded keys, the list of standing edits, the redo list, a reach of 0..128, three counts, a fresh player's view and the open drag. It declines by the
 -- table on its own state. Definitions only.
 use Prim.Native.Nat.{ℕ, zero, suc, _+_, _-_, min}
@@ -15,11 +15,11 @@ use Rattle.player.specs.Parts.{View, noView}
 use Rattle.player.specs.View.{playView, poseView, tickView, tickAnswer}
 use Rattle.edit.specs.declared.request.Request.{Request}
 use Rattle.edit.specs.declared.request.Request.the-variants as request
-use Rattle.edit.specs.Edit.{Edit, spotOf, madeEdit, requestRows, trackRows, editRows}
+use Rattle.edit.specs.Edit.{Edit, spotOf, unchanged, madeEdit, requestRows, trackRows, editRows}
 use Rattle.player.specs.Undo.{someRows}
 use Rattle.menu.specs.Rows.{playRows, poseRows, tickRows, saveRows}
 use Rattle.menu.specs.Calls.{writtenBy, savedWith}
-use Rattle.machine.specs.Calls.{Call, play, pose, tick, edit, undo, redo, openDrag, drag, dropDrag, abandonDrag, ask, save, Answer, number, ticked, told, written, onNext}
+use Rattle.machine.specs.Calls.{Call, play, pose, tick, edit, undo, redo, openDrag, drag, dropDrag, abandonDrag, ask, save, Answer, number, edited, ticked, told, written, onNext}
 use Rattle.machine.specs.Asks.{askRefusal, tellIn}
 
 -- A drag: none is open; a key was opened, in an animation, and no drag was accepted yet; or with the frame and value of the last accepted request.
@@ -111,9 +111,11 @@ appended m e =
       drag = closed;
     }
 
-abbrev pub edits : ℕ → Plain → Edit → Plain × Answer
-edits zero m e = (appended m e, number 0)
-edits (suc n) m e = (m, number (suc n))
+-- An edit, by its refusal and by whether it is unchanged: then it "isn't appended, isn't counted, and leaves reach and redo as they were".
+abbrev pub edits : ℕ → Bool → Plain → Edit → Plain × Answer
+edits zero true m e = (m, edited 0 true)
+edits zero false m e = (appended m e, edited 0 false)
+edits (suc n) same m e = (m, edited (suc n) false)
 
 -- Undo: the last standing edit moves to redo, reach − 1, undone + 1. (Nothing standing and no refusal doesn't come about.)
 abbrev pub undoes : ℕ → Plain → List Edit → Plain × Answer
@@ -157,7 +159,7 @@ redoes (suc n) m es = (m, number (suc n))
 abbrev pub asked : Plain → ℕ → ℕ → Request → Edit
 asked m track key r = record { animation = m .view .selection; track = track; key = key; request = r }
 
--- the machine with another drag, and what an opening or a drag leaves by its refusal
+-- the machine with another drag, and what an opening leaves by its refusal
 abbrev pub holding : Plain → Dragging → Plain
 holding m d =
     record {
@@ -176,17 +178,23 @@ abbrev pub holds : ℕ → Plain → Dragging → Plain × Answer
 holds zero m d = (holding m d, number 0)
 holds (suc n) m d = (m, number (suc n))
 
--- A drag: a key edit of the open key. Without one: 15, here and below.
-abbrev pub drags : List ℕ → Plain → Float → Float → Dragging → Plain × Answer
-drags s m x v closed = (m, number 15)
-drags s m x v (opened a track key) = holds (declines (requestRows (keysOf s m .frames) (spotOf s track key) (request.Key x v))) m (dragged a track key x v)
-drags s m x v (dragged a track key y w) = holds (declines (requestRows (keysOf s m .frames) (spotOf s track key) (request.Key x v))) m (dragged a track key x v)
+-- A drag: a key edit of the open key, by its refusal; an unchanged one is the last accepted request too. Without an open key: 15, here and below.
+abbrev pub dragsTo : ℕ → Bool → Plain → Dragging → Plain × Answer
+dragsTo zero same m d = (holding m d, edited 0 same)
+dragsTo (suc n) same m d = (m, edited (suc n) false)
 
--- Drop: one standing edit, as an accepted edit leaves it; with no accepted drag none, and no count, reach or redo changes.
-abbrev pub drops : Plain → Dragging → Plain × Answer
-drops m closed = (m, number 15)
-drops m (opened a track key) = (holding m closed, number 0)
-drops m (dragged a track key x v) = (appended m (draggedTo a track key x v), number 0)
+abbrev pub drags : List ℕ → Plain → Float → Float → Dragging → Plain × Answer
+drags s m x v closed = (m, edited 15 false)
+drags s m x v (opened a track key) =
+    dragsTo (declines (requestRows (keysOf s m .frames) (spotOf s track key) (request.Key x v))) (unchanged s (keysOf s m) track key (request.Key x v)) m (dragged a track key x v)
+drags s m x v (dragged a track key y w) =
+    dragsTo (declines (requestRows (keysOf s m .frames) (spotOf s track key) (request.Key x v))) (unchanged s (keysOf s m) track key (request.Key x v)) m (dragged a track key x v)
+
+-- Drop: the last accepted request is an edit of the standing keys, which are the keys of the opening. With no accepted drag it is unchanged.
+abbrev pub drops : List ℕ → Plain → Dragging → Plain × Answer
+drops s m closed = (m, edited 15 false)
+drops s m (opened a track key) = (holding m closed, edited 0 true)
+drops s m (dragged a track key x v) = edits 0 (unchanged s (standingKeys s m) track key (request.Key x v)) (holding m closed) (draggedTo a track key x v)
 
 -- Abandon: no edit, and no count, reach or redo changes.
 abbrev pub abandons : Plain → Dragging → Plain × Answer
@@ -199,13 +207,14 @@ abbrev pub stepM : List ℕ → Call → Plain → Plain × Answer
 stepM s (play a) m = moves (declines (playRows s a)) m (playView a (m .view))
 stepM s (pose a x) m = moves (declines (poseRows x)) m (poseView s a x)
 stepM s (tick dt fps) m = ticksOn (declines (tickRows s (m .view) dt fps)) s dt fps m
-stepM s (edit track key r) m = edits (declines (editRows s (m .view .selection) (isOpen (m .drag)) (keysOf s m) track key r)) m (asked m track key r)
+stepM s (edit track key r) m =
+    edits (declines (editRows s (m .view .selection) (isOpen (m .drag)) (keysOf s m) track key r)) (unchanged s (keysOf s m) track key r) m (asked m track key r)
 stepM s undo m = undoes (declines (someRows (isOpen (m .drag)) (m .reach))) m (m .standing)
 stepM s redo m = redoes (declines (someRows (isOpen (m .drag)) (length (m .redo)))) m (m .redo)
 stepM s (openDrag track key) m =
     holds (declines (trackRows s (m .view .selection) (isOpen (m .drag)) track key)) m (opened (m .view .selection) track key)
 stepM s (drag x v) m = drags s m x v (m .drag)
-stepM s dropDrag m = drops m (m .drag)
+stepM s dropDrag m = drops s m (m .drag)
 stepM s abandonDrag m = abandons m (m .drag)
 stepM s (ask b q) m = (m, told (tellIn s b (m .view) (keysOf s m) (askRefusal b q) q))
 stepM s (save o) m = (m, written (writtenBy (saveRows s (length o)) (savedWith s (keysOf s m)) o))

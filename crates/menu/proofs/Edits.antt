@@ -2,9 +2,10 @@
 -- calls share. Assumes nothing.
 use Prim.Native.Nat.{ℕ, _<_}
 use mathlib.Core.Path.{_≡_, sym, _∙_}
-use mathlib.Core.Bool.{Bool, true}
+use mathlib.Core.Bool.{Bool, true, false}
 use mathlib.Core.List.{List, _++_}
 use native.Mathlib.Omega.{arith}
+use borrow.Author.Tests.{ne-eqb}
 use lib.ListN.{set}
 use lib.Ieee.{Float}
 use Rattle.laws.specs.Rows.{Row, declines, first-held, stops, goes}
@@ -15,8 +16,8 @@ use Rattle.curve.specs.Keys as curve
 use Rattle.player.specs.declared.Player.{Player}
 use Rattle.edit.specs.declared.request.Request.{Request}
 use Rattle.edit.specs.declared.spot.Spot.{Spot}
-use Rattle.edit.specs.Keys.{keys, keyAt, putKey}
-use Rattle.edit.specs.Edit.{hasKey, spotOf, editedAt, edited, requestRows, trackRows}
+use Rattle.edit.specs.Keys.{keys, keyAt, putKey, sameKey}
+use Rattle.edit.specs.Edit.{hasKey, spotOf, editedAt, edited, unchanged, requestRows, trackRows}
 use Rattle.edit.specs.Put.{has-key, spot-inside}
 use Rattle.edit.specs.Accepted.{tracked-key, accepted-key}
 use Rattle.edit.specs.Spot.{InsideAll}
@@ -24,7 +25,7 @@ use Rattle.player.specs.Counts.{CanEdit}
 use Rattle.player.specs.Edited.{editedPlayer}
 use Rattle.menu_checks.specs.Rows.{stateRows}
 use Rattle.menu.specs.Rows.{editTable}
-use Rattle.menu.specs.Calls.{gave, entryFor, editOf}
+use Rattle.menu.specs.Calls.{gaveEdit, entryFor, editOf}
 use Rattle.menu_checks.specs.Checks.{StateReady, state-ready}
 
 -- what a call has that changes a key and is not declined
@@ -46,6 +47,12 @@ on-key {s} {fs = fs} {vs} {ss} w track key h =
       counts = record { reach = omega (arith, c .room); accepted = c .accepts; standing = c .stands };
     }
 
+-- whether a request leaves the key as it is, from what the calls give
+pub unchanged-is : (s : List ℕ) (fs vs ss : List Float) (track key : ℕ) (r : Request) (x : Spot) (b a : Key) {same : Bool} → x ≡ spotOf s track key → b ≡ curve.keyAt fs vs ss (x .at)
+    → a ≡ editedAt (keys fs vs ss) x r → same ≡ sameKey a b → same ≡ unchanged s (keys fs vs ss) track key r
+unfolding unchanged edited keyAt spotOf
+unchanged-is s fs vs ss track key r x b a l h k u = u ∙ rw (k, h, l)
+
 module _ (s : List ℕ) (p : Player) (fs vs ss : List Float) (track key : ℕ) (r : Request) (n : ℕ) (e : n ≡ declines (editTable s p (keys fs vs ss) track key r)) where
   pub allowed : n ≡ 0 → Allowed s p fs vs ss track key
   unfolding editTable
@@ -53,12 +60,22 @@ module _ (s : List ℕ) (p : Player) (fs vs ss : List Float) (track key : ℕ) (
       let h = accepted-key s (p .selection) (p .drag .«open») track key (keys fs vs ss) r (first-held (stateRows s p (keys fs vs ss)) _ tt (sym e ∙ z) .1) .0 in
       on-key (state-ready s p fs vs ss _ e z) track key h
 
-  pub made-is : (x : Spot) (b a : Key) (q : Player) (fs′ vs′ ss′ : List Float) → n ≡ 0 → x ≡ spotOf s track key → b ≡ curve.keyAt fs vs ss (x .at)
+  -- declined, and unchanged: player and keys are as they were
+  pub edit-not : (n ≡ 0 → ⊥) → gaveEdit (record { refusal = n; unchanged = false; player = p }) (keys fs vs ss) ≡ editOf s p (keys fs vs ss) track key r
+  unfolding editOf
+  edit-not d = rw (← e, ne-eqb n 0 d)
+
+  pub same-is : {same : Bool} → n ≡ 0 → same ≡ unchanged s (keys fs vs ss) track key r → same ≡ true
+      → gaveEdit (record { refusal = 0; unchanged = true; player = p }) (keys fs vs ss) ≡ editOf s p (keys fs vs ss) track key r
+  unfolding editOf
+  same-is z u t = rw (← e, z, ← u, t)
+
+  pub made-is : (x : Spot) (b a : Key) (q : Player) (fs′ vs′ ss′ : List Float) {same : Bool} → n ≡ 0 → same ≡ unchanged s (keys fs vs ss) track key r → same ≡ false → x ≡ spotOf s track key → b ≡ curve.keyAt fs vs ss (x .at)
       → a ≡ editedAt (keys fs vs ss) x r → q ≡ editedPlayer p (record { track = track; key = key; before = b; after = a })
       → fs′ ≡ set fs (x .at) (a .frame) → vs′ ≡ set vs (x .at) (a .value) → ss′ ≡ set ss (x .at) (a .slope)
-      → gave (record { refusal = 0; player = q }) (keys fs′ vs′ ss′) ≡ editOf s p (keys fs vs ss) track key r
+      → gaveEdit (record { refusal = 0; unchanged = false; player = q }) (keys fs′ vs′ ss′) ≡ editOf s p (keys fs vs ss) track key r
   unfolding editOf entryFor edited keyAt putKey spotOf
-  made-is x b a q fs′ vs′ ss′ z l h k m f v t = rw (← e, z, m, f, v, t, k, h, l)
+  made-is x b a q fs′ vs′ ss′ z u d l h k m f v t = rw (← e, z, ← u, d, m, f, v, t, k, h, l)
 
 -- the request's rows, at the spot that a call gave
 pub request-at : (s : List ℕ) (fs : List Float) (track key : ℕ) (r : Request) {n : ℕ} {x : Spot} → x ≡ spotOf s track key → n ≡ declines (requestRows fs x r)

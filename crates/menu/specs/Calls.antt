@@ -1,7 +1,7 @@
--- What each call gives (document 01, "Playing and editing" and "What a call declines"; document 02, 1/13 and 2/13): the number of the first row of its list that doesn't hold
+-- What each call gives (document 01, "Playing and editing" and "What a call declines"; document 02, 1/13, 2/13 and 4/13): the number of the first row of its list that doesn't hold
 -- (specs/Rows), and its step where each does. Definitions only.
 use Prim.Native.Nat.{ℕ}
-use mathlib.Core.Bool.{cond}
+use mathlib.Core.Bool.{Bool, not, _&&_, cond}
 use mathlib.Core.List.{List, []}
 use lib.Dec.{eqb}
 use lib.ListN.{length}
@@ -19,15 +19,16 @@ use Rattle.player.specs.Parts.{viewOf, withView, withDrag}
 use Rattle.player.specs.View.{playView, poseView, tickView, tickAnswer}
 use Rattle.edit.specs.declared.request.Request.{Request}
 use Rattle.edit.specs.declared.request.Request.the-variants as request
-use Rattle.edit.specs.Edit.{place, edited}
+use Rattle.edit.specs.Edit.{place, edited, unchanged}
 use Rattle.player.specs.declared.undo.Way.{Way}
 use Rattle.player.specs.declared.undo.Way.the-variants.{Undo, Redo}
 use Rattle.player.specs.Undo.{entryOf, takenKeys, takenPlayer}
 use Rattle.player.specs.Edited.{editedPlayer}
-use Rattle.player.specs.Drag.{noDrag, openedOn, movedOn, putBack}
+use Rattle.player.specs.Drag.{noDrag, openedOn, movedOn, dropUnchanged, putBack}
 use Rattle.player.specs.Dragged.{droppedPlayer}
 use Rattle.menu.specs.declared.playing.Played.{Played}
 use Rattle.menu.specs.declared.playing.Ticked.{Ticked}
+use Rattle.menu.specs.declared.editing.Edited.{Edited}
 use Rattle.menu.specs.Rows.{playTable, poseTable, tickTable, editTable, takeTable, openTable, dragTable, closeTable, saveTable, nextNameTable}
 
 unfoldable pub playOf : List ℕ → Player → ℕ → Played
@@ -62,15 +63,32 @@ gave r ks = record { refusal = r .refusal; player = r .player; keys = ks }
 abbrev pub changed : ℕ → Player → Keys → Player → Keys → Changed
 changed n p ks q ls = record { refusal = n; player = cond (eqb n 0) q p; keys = cond (eqb n 0) ls ks }
 
+-- what an edit and a drag give, and leave in the three arrays
+pub record EditedKeys : Type 0 where
+  pub refusal : ℕ
+  pub unchanged : Bool
+  pub player : Player
+  pub keys : Keys
+
+abbrev pub gaveEdit : Edited → Keys → EditedKeys
+gaveEdit r ks = record { refusal = r .refusal; unchanged = r .unchanged; player = r .player; keys = ks }
+
 -- the journal's entry of an edit that is made on ks
 unfoldable pub entryFor : List ℕ → Keys → ℕ → ℕ → Request → Entry
 entryFor s ks track key r = record { track = track; key = key; before = keyAt ks (place s track key); after = edited s ks track key r }
 
-unfoldable pub editOf : List ℕ → Player → Keys → ℕ → ℕ → Request → Changed
+-- Both edits. "An edit after which frame, value and slope have the same bits as before is answered as unchanged: it isn't appended, isn't counted, and
+-- leaves reach and redo as they were" (document 02, 4/13). Refusals come first.
+unfoldable pub editOf : List ℕ → Player → Keys → ℕ → ℕ → Request → EditedKeys
 editOf s p ks track key r =
-    changed (declines (editTable s p ks track key r)) p ks
-    (editedPlayer p (entryFor s ks track key r))
-    (putKey ks (place s track key) (edited s ks track key r))
+    let n = declines (editTable s p ks track key r) in
+    let same = unchanged s ks track key r in
+    record {
+      refusal = n;
+      unchanged = eqb n 0 && same;
+      player = cond (eqb n 0 && not same) (editedPlayer p (entryFor s ks track key r)) p;
+      keys = cond (eqb n 0 && not same) (putKey ks (place s track key) (edited s ks track key r)) ks;
+    }
 
 -- Loading: the sheet's keys, and a fresh player.
 unfoldable pub loadedOf : List ℕ → Keys → Changed
@@ -102,18 +120,23 @@ openOf s p ks track key =
     let n = declines (openTable s p ks track key) in
     record { refusal = n; player = cond (eqb n 0) (withDrag p (openedOn track key (keyAt ks (place s track key)))) p }
 
--- A drag: a key edit of that key, which the journal doesn't take.
-unfoldable pub dragOf : List ℕ → Player → Keys → Float → Float → Changed
+-- A drag: a key edit of that key, which the journal doesn't take. An unchanged one is an accepted request too.
+unfoldable pub dragOf : List ℕ → Player → Keys → Float → Float → EditedKeys
 dragOf s p ks x v =
-    changed (declines (dragTable s p ks x v)) p ks
-    (withDrag p (movedOn (p .drag)))
-    (putKey ks (heldAt s p) (edited s ks (p .drag .track) (p .drag .key) (request.Key x v)))
+    let n = declines (dragTable s p ks x v) in
+    record {
+      refusal = n;
+      unchanged = eqb n 0 && unchanged s ks (p .drag .track) (p .drag .key) (request.Key x v);
+      player = cond (eqb n 0) (withDrag p (movedOn (p .drag))) p;
+      keys = cond (eqb n 0) (putKey ks (heldAt s p) (edited s ks (p .drag .track) (p .drag .key) (request.Key x v))) ks;
+    }
 
--- A drop: the key stays where it is, as one edit if a drag was accepted.
-unfoldable pub dropOf : List ℕ → Player → Keys → Played
+-- A drop: the key stays where it is, as one edit unless it is unchanged.
+unfoldable pub dropOf : List ℕ → Player → Keys → Edited
 dropOf s p ks =
     let n = declines (closeTable s p ks) in
-    record { refusal = n; player = cond (eqb n 0) (droppedPlayer p (keyAt ks (heldAt s p))) p }
+    let k = keyAt ks (heldAt s p) in
+    record { refusal = n; unchanged = eqb n 0 && dropUnchanged (p .drag) k; player = cond (eqb n 0) (droppedPlayer p k) p }
 
 -- An abandonment: the key is put back, and nothing is counted.
 unfoldable pub abandonOf : List ℕ → Player → Keys → Changed

@@ -1,6 +1,8 @@
 // A drag of one key: opened, dragged, and then dropped or abandoned. Play, pose, tick, readings and saving go on meanwhile.
+use crate::editing::Edited;
 use crate::playing::Played;
 use edit::put::put_key;
+use edit::put::same_key;
 use edit::request::Request;
 use edit::request::request_refusal;
 use edit::request::track_refusal;
@@ -14,7 +16,7 @@ ghost use mathlib.Core.Path.{_≡_};
 ghost use Rattle.laws.specs.Rows.{declines};
 ghost use Rattle.edit.specs.Keys.{lent};
 ghost use Rattle.menu.specs.Rows.{openTable, dragTable, closeTable};
-ghost use Rattle.menu.specs.Calls.{gave, openOf, dragOf, dropOf, abandonOf};
+ghost use Rattle.menu.specs.Calls.{gave, gaveEdit, openOf, dragOf, dropOf, abandonOf};
 
 fn open_refusal(
     p: Player,
@@ -93,23 +95,26 @@ pub fn drag(
     slopes: &mut [f32],
     frame: f32,
     value: f32,
-) -> Played
-    ensures { λ g. ⌜ gave g (lent (frames .exit) (values .exit) (slopes .exit)) ≡ dragOf (now (s .entry)) p (lent (frames .entry) (values .entry) (slopes .entry)) frame value ⌝ }
+) -> Edited
+    ensures { λ g. ⌜ gaveEdit g (lent (frames .exit) (values .exit) (slopes .exit)) ≡ dragOf (now (s .entry)) p (lent (frames .entry) (values .entry) (slopes .entry)) frame value ⌝ }
 {
     let n = drag_refusal(p, s, frames, values, slopes, frame, value);
     if n != ACCEPTED {
-        return Played {
+        return Edited {
             refusal: n,
+            unchanged: false,
             player: p,
         };
     }
     let d = p.drag;
     let spot = spot_of(s, d.track as usize, d.key);
     let at = spot.at;
+    let now = curve::key_at(frames, values, slopes, at);
     let next = edit::request::edited(frames, values, slopes, spot, Request::Key(frame, value));
     put_key(frames, values, slopes, at, next);
-    Played {
+    Edited {
         refusal: ACCEPTED,
+        unchanged: same_key(next, now),
         player: p.with_drag(Drag { moved: true, ..d }),
     }
 }
@@ -127,22 +132,24 @@ fn close_refusal(p: Player, s: &[u8], frames: &[f32], values: &[f32], slopes: &[
     ACCEPTED
 }
 
-// Leaves the key where it is, as one edit if a drag was accepted. Refusals 1, 3 to 5, 15.
-pub fn drop_drag(p: Player, s: &[u8], frames: &[f32], values: &[f32], slopes: &[f32]) -> Played
+// Leaves the key where it is, as one edit if a drag was accepted and the key has other bits than at opening. Refusals 1, 3 to 5, 15.
+pub fn drop_drag(p: Player, s: &[u8], frames: &[f32], values: &[f32], slopes: &[f32]) -> Edited
     ensures { λ r. ⌜ r ≡ dropOf (now (s .entry)) p (lent (frames .entry) (values .entry) (slopes .entry)) ⌝ }
 {
     let n = close_refusal(p, s, frames, values, slopes);
     if n != ACCEPTED {
-        return Played {
+        return Edited {
             refusal: n,
+            unchanged: false,
             player: p,
         };
     }
     let d = p.drag;
     let spot = spot_of(s, d.track as usize, d.key);
     let now = curve::key_at(frames, values, slopes, spot.at);
-    Played {
+    Edited {
         refusal: ACCEPTED,
+        unchanged: d.unchanged(now),
         player: p.dropped(now),
     }
 }

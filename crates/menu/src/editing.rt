@@ -1,6 +1,6 @@
 // The edits of one key.
-use crate::playing::Played;
 use edit::put::put_key;
+use edit::put::same_key;
 use edit::request::Request;
 use edit::request::request_refusal;
 use edit::request::track_refusal;
@@ -13,7 +13,15 @@ ghost use mathlib.Core.Path.{_≡_};
 ghost use Rattle.laws.specs.Rows.{declines};
 ghost use Rattle.edit.specs.Keys.{lent};
 ghost use Rattle.menu.specs.Rows.{editTable};
-ghost use Rattle.menu.specs.Calls.{gave, editOf};
+ghost use Rattle.menu.specs.Calls.{gaveEdit, editOf};
+
+// What an edit, a drag and a drop answer. `unchanged`: nothing was declined, and the key has the same bits as before; or no drag was accepted before a drop.
+#[repr(C)]
+pub struct Edited {
+    pub refusal: u8,
+    pub unchanged: bool,
+    pub player: Player,
+}
 
 fn edit_refusal(
     p: Player,
@@ -39,7 +47,7 @@ fn edit_refusal(
     request_refusal(frames, spot, r)
 }
 
-// The edit of either kind: the key is made and put in its place, and its entry goes into the journal.
+// The edit of either kind: the key is made and put in its place, and its entry goes into the journal. A key that has the same bits as before is neither.
 fn edit(
     p: Player,
     s: &[u8],
@@ -49,13 +57,14 @@ fn edit(
     track: u16,
     key: u16,
     r: Request,
-) -> Played
-    ensures { λ g. ⌜ gave g (lent (frames .exit) (values .exit) (slopes .exit)) ≡ editOf (now (s .entry)) p (lent (frames .entry) (values .entry) (slopes .entry)) track key r ⌝ }
+) -> Edited
+    ensures { λ g. ⌜ gaveEdit g (lent (frames .exit) (values .exit) (slopes .exit)) ≡ editOf (now (s .entry)) p (lent (frames .entry) (values .entry) (slopes .entry)) track key r ⌝ }
 {
     let n = edit_refusal(p, s, frames, values, slopes, track, key, r);
     if n != ACCEPTED {
-        return Played {
+        return Edited {
             refusal: n,
+            unchanged: false,
             player: p,
         };
     }
@@ -63,6 +72,13 @@ fn edit(
     let at = spot.at;
     let before = curve::key_at(frames, values, slopes, at);
     let after = edit::request::edited(frames, values, slopes, spot, r);
+    if same_key(after, before) {
+        return Edited {
+            refusal: ACCEPTED,
+            unchanged: true,
+            player: p,
+        };
+    }
     put_key(frames, values, slopes, at, after);
     let e = Entry {
         track,
@@ -70,8 +86,9 @@ fn edit(
         before,
         after,
     };
-    Played {
+    Edited {
         refusal: ACCEPTED,
+        unchanged: false,
         player: p.after_edit(e),
     }
 }
@@ -87,8 +104,8 @@ pub fn key_edit(
     key: u16,
     frame: f32,
     value: f32,
-) -> Played
-    ensures { λ g. ⌜ gave g (lent (frames .exit) (values .exit) (slopes .exit)) ≡ editOf (now (s .entry)) p (lent (frames .entry) (values .entry) (slopes .entry)) track key (Request.Key frame value) ⌝ }
+) -> Edited
+    ensures { λ g. ⌜ gaveEdit g (lent (frames .exit) (values .exit) (slopes .exit)) ≡ editOf (now (s .entry)) p (lent (frames .entry) (values .entry) (slopes .entry)) track key (Request.Key frame value) ⌝ }
 {
     edit(
         p,
@@ -112,8 +129,8 @@ pub fn slope_edit(
     track: u16,
     key: u16,
     slope: f32,
-) -> Played
-    ensures { λ g. ⌜ gave g (lent (frames .exit) (values .exit) (slopes .exit)) ≡ editOf (now (s .entry)) p (lent (frames .entry) (values .entry) (slopes .entry)) track key (Request.Slope slope) ⌝ }
+) -> Edited
+    ensures { λ g. ⌜ gaveEdit g (lent (frames .exit) (values .exit) (slopes .exit)) ≡ editOf (now (s .entry)) p (lent (frames .entry) (values .entry) (slopes .entry)) track key (Request.Slope slope) ⌝ }
 {
     edit(
         p,

@@ -11,6 +11,7 @@ pub use dragging::abandon_drag;
 pub use dragging::drag;
 pub use dragging::drop_drag;
 pub use dragging::open_drag;
+pub use editing::Edited;
 pub use editing::key_edit;
 pub use editing::slope_edit;
 pub use loading::load;

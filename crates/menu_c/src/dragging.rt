@@ -1,9 +1,10 @@
 // Dragging a key.
+use menu::Edited;
 use menu::Played;
 use player::Player;
 ghost use mathlib.Core.Path.{_≡_};
 ghost use Rattle.edit.specs.Keys.{lent};
-ghost use Rattle.menu.specs.Calls.{gave, openOf, dragOf, dropOf, abandonOf};
+ghost use Rattle.menu.specs.Calls.{gave, gaveEdit, openOf, dragOf, dropOf, abandonOf};
 
 #[no_mangle]
 pub extern "C" fn menu_open_drag(
@@ -29,8 +30,8 @@ pub extern "C" fn menu_drag(
     slopes: &mut [f32],
     frame: f32,
     value: f32,
-) -> Played
-    ensures { λ r. ⌜ gave r (lent (frames .exit) (values .exit) (slopes .exit)) ≡ dragOf (now (sheet .entry)) player (lent (frames .entry) (values .entry) (slopes .entry)) frame value ⌝ }
+) -> Edited
+    ensures { λ r. ⌜ gaveEdit r (lent (frames .exit) (values .exit) (slopes .exit)) ≡ dragOf (now (sheet .entry)) player (lent (frames .entry) (values .entry) (slopes .entry)) frame value ⌝ }
 {
     menu::drag(player, sheet, frames, values, slopes, frame, value)
 }
@@ -42,7 +43,7 @@ pub extern "C" fn menu_drop_drag(
     frames: &[f32],
     values: &[f32],
     slopes: &[f32],
-) -> Played
+) -> Edited
     ensures { λ r. ⌜ r ≡ dropOf (now (sheet .entry)) player (lent (frames .entry) (values .entry) (slopes .entry)) ⌝ }
 {
     menu::drop_drag(player, sheet, frames, values, slopes)

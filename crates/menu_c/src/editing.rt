@@ -1,10 +1,11 @@
 // Edits, undo, redo and saving.
 use edit::request::Request;
+use menu::Edited;
 use menu::Played;
 use player::Player;
 ghost use mathlib.Core.Path.{_≡_};
 ghost use Rattle.edit.specs.Keys.{lent};
-ghost use Rattle.menu.specs.Calls.{gave, wrote, editOf, undoOf, redoOf, saveOf};
+ghost use Rattle.menu.specs.Calls.{gave, gaveEdit, wrote, editOf, undoOf, redoOf, saveOf};
 
 #[no_mangle]
 pub extern "C" fn menu_key_edit(
@@ -17,8 +18,8 @@ pub extern "C" fn menu_key_edit(
     key: u16,
     frame: f32,
     value: f32,
-) -> Played
-    ensures { λ r. ⌜ gave r (lent (frames .exit) (values .exit) (slopes .exit)) ≡ editOf (now (sheet .entry)) player (lent (frames .entry) (values .entry) (slopes .entry)) track key (Request.Key frame value) ⌝ }
+) -> Edited
+    ensures { λ r. ⌜ gaveEdit r (lent (frames .exit) (values .exit) (slopes .exit)) ≡ editOf (now (sheet .entry)) player (lent (frames .entry) (values .entry) (slopes .entry)) track key (Request.Key frame value) ⌝ }
 {
     menu::key_edit(
         player,
@@ -43,8 +44,8 @@ pub extern "C" fn menu_slope_edit(
     track: u16,
     key: u16,
     slope: f32,
-) -> Played
-    ensures { λ r. ⌜ gave r (lent (frames .exit) (values .exit) (slopes .exit)) ≡ editOf (now (sheet .entry)) player (lent (frames .entry) (values .entry) (slopes .entry)) track key (Request.Slope slope) ⌝ }
+) -> Edited
+    ensures { λ r. ⌜ gaveEdit r (lent (frames .exit) (values .exit) (slopes .exit)) ≡ editOf (now (sheet .entry)) player (lent (frames .entry) (values .entry) (slopes .entry)) track key (Request.Slope slope) ⌝ }
 {
     menu::slope_edit(player, sheet, frames, values, slopes, track, key, slope)
 }

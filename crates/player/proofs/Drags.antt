@@ -1,4 +1,4 @@
--- Row 5's questions of a drag, by the ways of `Drag::ok` and `Drag::fits`, and the player after a drop. Assumes nothing.
+-- Row 5's questions of a drag, by the ways of `Drag::ok` and `Drag::fits`, and what a drop leaves. Assumes nothing.
 use Prim.Native.Nat.{ℕ, _<_}
 use mathlib.Core.Path.{_≡_, sym, _∙_}
 use mathlib.Core.Bool.{Bool, true, false, not}
@@ -9,14 +9,14 @@ use Rattle.sheet.specs.Sizes.{targetCount}
 use Rattle.sheet.specs.Checked.{Checked}
 use Rattle.curve.specs.declared.Key.{Key}
 use Rattle.edit.specs.declared.spot.Spot.{Spot}
-use Rattle.edit.specs.Keys.{Keys, keys}
+use Rattle.edit.specs.Keys.{Keys, keys, sameKey}
 use Rattle.edit.specs.Edit.{hasKey, spotOf}
 use Rattle.edit.specs.Spot.{Inside}
 use Rattle.edit.specs.Put.{fitsAt}
 use Rattle.player.specs.declared.Player.{Player}
 use Rattle.player.specs.declared.drag.Drag.{Drag}
 use Rattle.player.specs.declared.journal.Entry.{Entry}
-use Rattle.player.specs.Drag.{noDrag, startOf, dragEntry, dragOk, dragFits}
+use Rattle.player.specs.Drag.{noDrag, startOf, dropUnchanged, dragEntry, dragOk, dragFits}
 use Rattle.player.specs.Dragged.{Draggable, drag-key, drag-inside, fits-by-spot, droppedPlayer}
 use Rattle.player.specs.Parts.{withDrag}
 use Rattle.player.specs.Edited.{editedPlayer}
@@ -48,14 +48,26 @@ module _ {s : List ℕ} {fs vs ss : List Float} {d : Drag} (w : Draggable s (key
   open-fits p k q l h = h ∙ rw (l, q) (sym (fits-by-spot w (not-false (d .«open») o)))
 
 -- ---- a drop, from what the calls give
-module _ (p : Player) (now : Key) {closed : Player} {none : Drag} (n : none ≡ noDrag) (c : closed ≡ withDrag p none) where
-  pub dropped-nothing : not (p .drag .moved) ≡ true → closed ≡ droppedPlayer p now
-  unfolding droppedPlayer
-  dropped-nothing e = rw (not-true (p .drag .moved) e, c, n)
 
-  pub dropped-one : not (p .drag .moved) ≡ false → {e : Entry} {q : Player} → e ≡ dragEntry (p .drag) now → q ≡ editedPlayer closed e → q ≡ droppedPlayer p now
+-- whether it is unchanged: no drag was accepted; or by the key's bits
+module _ (d : Drag) (now : Key) where
+  pub unmoved : not (d .moved) ≡ true → true ≡ dropUnchanged d now
+  unfolding dropUnchanged
+  unmoved e = rw e
+
+  pub by-bits : {k : Key} {b : Bool} → not (d .moved) ≡ false → k ≡ startOf d → b ≡ sameKey now k → b ≡ dropUnchanged d now
+  unfolding dropUnchanged
+  by-bits e h q = q ∙ rw (e, h)
+
+-- and the player
+module _ (p : Player) (now : Key) {closed : Player} {none : Drag} {same : Bool} (n : none ≡ noDrag) (c : closed ≡ withDrag p none) (u : same ≡ dropUnchanged (p .drag) now) where
+  pub dropped-nothing : same ≡ true → closed ≡ droppedPlayer p now
   unfolding droppedPlayer
-  dropped-one m h g = g ∙ rw (not-false (p .drag .moved) m, h, c, n)
+  dropped-nothing e = rw (← u, e, c, n)
+
+  pub dropped-one : same ≡ false → {e : Entry} {q : Player} → e ≡ dragEntry (p .drag) now → q ≡ editedPlayer closed e → q ≡ droppedPlayer p now
+  unfolding droppedPlayer
+  dropped-one e h g = g ∙ rw (← u, e, h, c, n)
 
 -- and the counts allow it as before
 pub closed-can : (p : Player) {closed : Player} {d : Drag} → closed ≡ withDrag p d → CanEdit p → CanEdit closed

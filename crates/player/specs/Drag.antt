@@ -1,12 +1,12 @@
 -- A drag (document 02, 2/13): one key of the sheet, held from its opening to its drop or its abandonment; its key as it was at opening; and when it is
--- broken (row 5 of the table) or in the way (row 15). Definitions only.
+-- broken (row 5 of the table) or in the way (row 15); and when its drop leaves the key as it was (4/13). Definitions only.
 use Prim.Native.Nat.{ℕ}
 use mathlib.Core.Bool.{Bool, true, false, not, _||_}
 use mathlib.Core.List.{List, [], _∷_}
 use Rattle.laws.specs.Rows.{Row, row}
 use Rattle.float.specs.Numbers.{zero'}
 use Rattle.curve.specs.declared.Key.{Key}
-use Rattle.edit.specs.Keys.{Keys, putKey, keysOkOf}
+use Rattle.edit.specs.Keys.{Keys, putKey, keysOkOf, sameKey}
 use Rattle.edit.specs.Edit.{hasKey, place}
 use Rattle.player.specs.declared.drag.Drag.{Drag}
 use Rattle.player.specs.declared.journal.Entry.{Entry}
@@ -43,6 +43,10 @@ movedOn d =
 -- the key as it was at opening
 abbrev pub startOf : Drag → Key
 startOf d = record { frame = d .«start_frame»; value = d .«start_value»; slope = d .«start_slope» }
+
+-- a drop of the key as it is now is unchanged: no drag was accepted, or it "drops on its starting bits" (document 02, 4/13)
+unfoldable pub dropUnchanged : Drag → Key → Bool
+dropUnchanged d now = not (d .moved) || sameKey now (startOf d)
 
 -- the journal's entry of a drop: "the key as it was at opening and is now"
 abbrev pub dragEntry : Drag → Key → Entry

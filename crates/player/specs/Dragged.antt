@@ -1,4 +1,4 @@
--- The player after a drop, and row 5's question of an open drag as one about its key and its neighbours (document 02, 2/13). Assumes nothing.
+-- The player after a drop, and row 5's question of an open drag as one about its key and its neighbours (document 02, 2/13 and 4/13). Assumes nothing.
 use Prim.Native.Nat.{ℕ, _<_}
 use mathlib.Core.Path.{_≡_}
 use mathlib.Core.Bool.{true, cond}
@@ -13,14 +13,14 @@ use Rattle.edit.specs.Spot.{InsideAll}
 use Rattle.edit.specs.Put.{fitsAt, has-key, spot-inside, put-fits}
 use Rattle.player.specs.declared.Player.{Player}
 use Rattle.player.specs.declared.drag.Drag.{Drag}
-use Rattle.player.specs.Drag.{noDrag, startOf, dragEntry, dragOk, putBack, dragFits}
+use Rattle.player.specs.Drag.{noDrag, startOf, dropUnchanged, dragEntry, dragOk, putBack, dragFits}
 use Rattle.player.specs.Parts.{withDrag}
 use Rattle.player.specs.Edited.{editedPlayer}
 
 -- Drop: "one journal entry with the key as it was at opening and is now; it adds one to accepted and reach and empties redo as an edit does; with no
--- accepted drag it leaves none and changes no count, reach or redo".
+-- accepted drag it leaves none and changes no count, reach or redo". Nor does an unchanged drop.
 unfoldable pub droppedPlayer : Player → Key → Player
-droppedPlayer p now = cond (p .drag .moved) (editedPlayer (withDrag p noDrag) (dragEntry (p .drag) now)) (withDrag p noDrag)
+droppedPlayer p now = cond (dropUnchanged (p .drag) now) (withDrag p noDrag) (editedPlayer (withDrag p noDrag) (dragEntry (p .drag) now))
 
 -- ---- sheet, keys and the drag's row passed their checks
 pub record Draggable (s : List ℕ) (ks : Keys) (d : Drag) : Type 0 where

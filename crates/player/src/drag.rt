@@ -3,12 +3,13 @@ use crate::Player;
 use crate::journal::Entry;
 use curve::Key;
 use edit::put::fits_at;
+use edit::put::same_key;
 use edit::spot::has_key;
 use edit::spot::spot_of;
 ghost use mathlib.Core.Path.{_≡_};
 ghost use Rattle.sheet.specs.Checked.{Checked};
 ghost use Rattle.edit.specs.Keys.{lent};
-ghost use Rattle.player.specs.Drag.{noDrag, openedOn, startOf, dragEntry, dragOk, dragFits};
+ghost use Rattle.player.specs.Drag.{noDrag, openedOn, startOf, dropUnchanged, dragEntry, dragOk, dragFits};
 ghost use Rattle.player.specs.Dragged.{Draggable, droppedPlayer};
 ghost use Rattle.player.specs.Parts.{withDrag};
 ghost use Rattle.player.specs.Counts.{CanEdit};
@@ -66,6 +67,16 @@ impl Drag {
         }
     }
 
+    // Whether a drop of the key as it is now leaves no edit: no drag was accepted, or the key has its starting bits.
+    pub fn unchanged(self, now: Key) -> bool
+        ensures { λ r. ⌜ r ≡ dropUnchanged self now ⌝ }
+    {
+        if !self.moved {
+            return true;
+        }
+        same_key(now, self.start())
+    }
+
     // The journal's entry of a drop: the key as it was at opening, and as it is now.
     fn entry(self, now: Key) -> Entry
         ensures { λ r. ⌜ r ≡ dragEntry self now ⌝ }
@@ -110,14 +121,14 @@ impl Player {
         Player { drag: d, ..self }
     }
 
-    // The player after a drop, the key being `now`. With no accepted drag it is no edit.
+    // The player after a drop, the key being `now`. An unchanged one is no edit.
     pub fn dropped(self, now: Key) -> Player
         requires { ⌜ CanEdit self ⌝ }
         ensures { λ r. ⌜ r ≡ droppedPlayer self now ⌝ }
     {
         let d = self.drag;
         let closed = self.with_drag(Drag::closed());
-        if !d.moved {
+        if d.unchanged(now) {
             return closed;
         }
         closed.after_edit(d.entry(now))

@@ -71,16 +71,16 @@ ask-alone s b p ks (texture m k) d = rw (ne-eqb (declines (askTable s b p ks (te
 ask-alone s b p ks (cascade visible alpha influence) d = tt
 
 call-alone : (s : List ℕ) (c : Call) (t : State) → (declines (callTable s c t) ≡ 0 → ⊥) → Alone (stepP s c t .1)
-unfolding callTable tickOf
+unfolding callTable tickOf editOf dragOf dropOf
 call-alone s (play a) t d = tt
 call-alone s (pose a x) t d = tt
 call-alone s (tick dt fps) t d = let e = ne-eqb (declines (callTable s (tick dt fps) t)) 0 d in (rw e, rw e)
-call-alone s (edit track key r) t d = tt
+call-alone s (edit track key r) t d = rw (ne-eqb (declines (callTable s (edit track key r) t)) 0 d)
 call-alone s undo t d = tt
 call-alone s redo t d = tt
 call-alone s (openDrag track key) t d = tt
-call-alone s (drag x v) t d = tt
-call-alone s dropDrag t d = tt
+call-alone s (drag x v) t d = rw (ne-eqb (declines (callTable s (drag x v) t)) 0 d)
+call-alone s dropDrag t d = rw (ne-eqb (declines (callTable s dropDrag t)) 0 d)
 call-alone s abandonDrag t d = tt
 call-alone s (ask b q) t d = ask-alone s b (t .player) (t .keys) q d
 call-alone s (save o) t d = tt

@@ -53,6 +53,11 @@ fn menu_table(name: &str, mut menu: Menu) {
     both("cascade with its checks", rows::cascade(&mut menu));
     both("tick with its checks", rows::tick(&mut menu));
     both("key edit with its checks", rows::edit(&mut menu));
+    row(
+        "unchanged key edit with its checks",
+        None,
+        rows::unchanged(&mut menu),
+    );
     let Both { ours, ratio, .. } = drags::drag(&mut menu);
     println!("| drag with its checks | {ours} | | {ratio} × key edit |");
     let Both { ours, ratio, .. } = drags::whole(&mut menu);

@@ -132,6 +132,13 @@ impl Menu {
     }
 }
 
+/// Where an edited key is put: at one of two values in turn, so that no edit is
+/// unchanged. Each row has values of its own.
+pub fn places(values: [f32; 2]) -> impl FnMut() -> (f32, f32) {
+    let mut values = values.into_iter().cycle();
+    move || (0.25, values.next().expect("it goes round"))
+}
+
 /// The comparison hangs a node below each pane to hear what it hands on; the
 /// published tree has none.
 fn without_listeners(nodes: &mut Vec<PaneNode>) {

@@ -1,11 +1,11 @@
 //! One function a row of the table: ours beside the Rust's, or alone where the
 //! Rust has no such call.
 
-use crate::menus::{FRAME, Menu};
+use crate::menus::{FRAME, Menu, places};
 use crate::timing::{Both, Spread, alone, side_by_side};
 use cases::geometry::uvs::{texture_srt, texture_uv};
 use compare::probe::readings::Tables;
-use dovebolt::{PaneChannel, Player, Vector2f, Vector3f};
+use dovebolt::{Edited, PaneChannel, Player, Vector2f, Vector3f};
 use published::anim_state::AnimationState;
 use published::bflyt::pane::{HorizontalPosition, VerticalPosition};
 use published::pane_tree::{Corners, PaneNode};
@@ -129,19 +129,41 @@ pub fn edit(menu: &mut Menu) -> Both {
         published,
         ..
     } = menu;
-    let asked = PendingKeyEdit {
+    let mut asked = PendingKeyEdit {
         track: place,
         key_idx: usize::from(key),
-        frame: 0.25,
-        value: 3.0,
+        frame: 0.0,
+        value: 0.0,
     };
+    let (mut ours_to, mut rust_to) = (places([3.0, 4.0]), places([3.0, 4.0]));
     side_by_side(
         &mut || {
-            let answer = player.key_edit(sheet, keys, track, key, asked.frame, asked.value);
-            answer.expect("an edit");
+            let (frame, value) = ours_to();
+            let answer = player.key_edit(sheet, keys, track, key, frame, value);
+            assert_eq!(answer, Ok(Edited::Made));
         },
-        &mut || published.apply_key_edit(black_box(&asked)),
+        &mut || {
+            (asked.frame, asked.value) = rust_to();
+            published.apply_key_edit(black_box(&asked));
+        },
     )
+}
+
+/// Return pressed on a key as it is, which the Rust stores again.
+pub fn unchanged(menu: &mut Menu) -> Spread {
+    let (track, _, key) = menu.edited_key();
+    let Menu {
+        sheet,
+        player,
+        keys,
+        ..
+    } = menu;
+    let answer = player.key_edit(sheet, keys, track, key, 0.5, 6.0);
+    assert_eq!(answer, Ok(Edited::Made));
+    alone(&mut || {
+        let answer = player.key_edit(sheet, keys, track, key, 0.5, 6.0);
+        assert_eq!(answer, Ok(Edited::Unchanged));
+    })
 }
 
 /// An undo and a redo in turn; the Rust has neither.
@@ -154,7 +176,7 @@ pub fn undo(menu: &mut Menu) -> Spread {
         ..
     } = menu;
     let answer = player.key_edit(sheet, keys, track, key, 0.5, 7.0);
-    answer.expect("an edit");
+    assert_eq!(answer, Ok(Edited::Made));
     let pair = alone(&mut || {
         player.undo(sheet, keys).expect("an undo");
         player.redo(sheet, keys).expect("a redo");

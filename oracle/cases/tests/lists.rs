@@ -4,6 +4,7 @@
 use cases::calls::drags::{self, Drags};
 use cases::calls::ends::{self, NextNames};
 use cases::calls::held::Held;
+use cases::calls::unchanged::Unchanged;
 use cases::calls::walk::{Step, Walk};
 use cases::calls::{Call, NONE, Tick, Told, views};
 use cases::format::load;
@@ -26,7 +27,7 @@ fn lists_reach_every_refusal_and_long_journals() {
                 Step::Called(call, answer) => {
                     refusals[usize::from(answer.refusal)] += 1;
                     calls += 1;
-                    drags.add(&call, answer.refusal, &drag);
+                    drags.add(&call, &answer, &drag);
                     if let Told::Tick(tick) = &answer.told {
                         next_names.add(tick);
                     }
@@ -60,6 +61,7 @@ fn lists_reach_every_refusal_and_long_journals() {
 /// Each state of a drag is met by each call, and row 9 where there is no room.
 #[test]
 fn short_lists_of_drags() {
+    let mut unchanged = Unchanged::default();
     for case in drags::cases() {
         let mut drags = Drags::default();
         let mut refusals = [0u64; 16];
@@ -71,16 +73,21 @@ fn short_lists_of_drags() {
                     panic!("{call:?} is a call");
                 };
                 assert!(i >= case.start.len() || answer.refusal == 0, "{call:?}");
-                drags.add(&call, answer.refusal, &before);
+                drags.add(&call, &answer, &before);
+                unchanged.add(&call, &answer, walk.held.player.redo);
                 refusals[usize::from(answer.refusal)] += 1;
             }
         }
         println!("{}: {refusals:?} {:?}", case.what, drags.each());
-        assert!(drags.is_whole());
+        let room = case.what != "no room";
+        let met = |(what, count): &(&str, u64)| *count > 0 || (!room && *what == drags::BACK);
+        assert!(drags.each().iter().all(met));
         let away = if case.what == "nothing active" { 6 } else { 7 };
         assert!([away, 11, 15].iter().all(|&n| refusals[n] > 0));
-        assert_eq!(refusals[9] > 0, case.what == "no room");
+        assert_eq!(refusals[9] > 0, !room);
     }
+    println!("unchanged: {unchanged}");
+    assert!(unchanged.is_whole());
 }
 
 /// What is saved is the loaded sheet where no edit stands, and loads as the keys

@@ -1,6 +1,6 @@
 //! Document 01's known poses of ticks, edits and the cascade, its sentences on undo
-//! and redo, and document 02's on drags, of the plain machine and of the player
-//! beside it, which `Walk` holds against each other at every call.
+//! and redo, and document 02's on drags and unchanged keys, of the plain machine and of
+//! the player beside it, which `Walk` holds against each other at every call.
 
 use cases::calls::player::{Player, ROWS};
 use cases::calls::walk::{Step, Walk};
@@ -58,6 +58,14 @@ fn answer(walk: &mut Walk, call: Call) -> Answer {
 
 fn refusal(walk: &mut Walk, call: Call) -> u8 {
     answer(walk, call).refusal
+}
+
+/// Whether an edit, a drag or a drop, which is accepted, is unchanged.
+fn unchanged(walk: &mut Walk, call: Call) -> bool {
+    let Answer { refusal, told } = answer(walk, call);
+    let unchanged = told == Told::Edited { unchanged: true };
+    assert_eq!((refusal, told), (0, Told::Edited { unchanged }));
+    unchanged
 }
 
 fn tick(walk: &mut Walk, dt: f32, fps: f32) -> (Told, f32) {
@@ -152,6 +160,53 @@ fn an_edit_empties_the_redo_list() {
     assert_eq!(counts, (3, 1, 0, 2, 2));
 }
 
+/// "An artist undid five moves, clicked a key, pressed return, and the redo list was
+/// gone."
+#[test]
+fn return_on_an_unchanged_key() {
+    let mut walk = walk(&sheet(true, &[0.0, 5.0]));
+    answer(&mut walk, Call::Play(0));
+    for frame in 6..11 {
+        assert!(!unchanged(&mut walk, edit(1, frame as f32)));
+    }
+    let (mut player, keys) = (walk.held.player.clone(), walk.held.keys.clone());
+    for _ in 0..5 {
+        assert_eq!(refusal(&mut walk, Call::Undo), 0);
+    }
+    let undone = walk.held.player.clone();
+    let pressed = Call::Edit {
+        track: 0,
+        key: 0,
+        request: Request::Key {
+            frame: -4.0, // held at 0
+            value: 127.5,
+        },
+    };
+    assert!(unchanged(&mut walk, pressed));
+    assert_eq!(walk.held.player, undone);
+    for _ in 0..5 {
+        assert_eq!(refusal(&mut walk, Call::Redo), 0);
+    }
+    (player.undone, player.redone) = (5, 5);
+    assert_eq!((&walk.held.player, &walk.held.keys), (&player, &keys));
+}
+
+/// "−0 and +0 differ."
+#[test]
+fn a_zero_of_the_other_sign() {
+    let mut walk = walk(&sheet(true, &[0.0]));
+    answer(&mut walk, Call::Play(0));
+    let slope = |slope| Call::Edit {
+        track: 0,
+        key: 0,
+        request: Request::Slope(slope),
+    };
+    for (zero, same) in [(0.0, true), (-0.0, false), (-0.0, true), (0.0, false)] {
+        assert_eq!(unchanged(&mut walk, slope(zero)), same);
+    }
+    assert_eq!(walk.held.player.accepted, 2);
+}
+
 /// A walk with an edit that stands and one that can be made again, and then a drag of
 /// the last key, opened at frame 7; its player and keys before opening.
 fn opened() -> (Walk, Player, Arrays) {
@@ -196,9 +251,25 @@ fn a_dropped_drag_is_one_edit() {
 fn a_drop_with_no_accepted_drag() {
     let (mut walk, before, keys) = opened();
     assert_eq!(refusal(&mut walk, drag(f32::NAN)), 8);
-    assert_eq!(refusal(&mut walk, Call::DropDrag), 0);
+    assert!(unchanged(&mut walk, Call::DropDrag));
     assert_eq!((&walk.held.player, &walk.held.keys), (&before, &keys));
     assert_eq!(refusal(&mut walk, Call::DropDrag), 15);
+}
+
+/// "A drag that drops on its starting bits is unchanged too."
+#[test]
+fn a_drag_there_and_back() {
+    let (mut walk, before, keys) = opened();
+    let back = Call::Drag {
+        frame: 7.0,
+        value: 1.0,
+    };
+    assert!(!unchanged(&mut walk, drag(9.0)));
+    assert!(unchanged(&mut walk, drag(9.0)));
+    assert!(!unchanged(&mut walk, back));
+    assert!(unchanged(&mut walk, Call::DropDrag));
+    assert_eq!((&walk.held.player, &walk.held.keys), (&before, &keys));
+    assert_eq!(refusal(&mut walk, Call::Redo), 0);
 }
 
 /// "Abandon puts the key back, counts nothing and keeps reach and redo."

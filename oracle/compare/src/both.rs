@@ -3,14 +3,17 @@
 
 use crate::ours::Ours;
 use cases::calls::held::Held;
-use cases::calls::player::Player;
+use cases::calls::player::{Drag, Player};
 use cases::calls::spoil::Spoil;
 use cases::calls::walk::{Step, Walk};
-use cases::calls::{Answer, Call, Request};
+use cases::calls::{Answer, Call, Request, Told};
 use cases::curves::HERMITE;
 use cases::format::sheet::{Animation, Content, Sheet, Target};
 use cases::random::Random;
 use cases::sheets::damage;
+
+/// The middle key of the base's first track: its frame and its value. Its slope is 0.
+pub const MIDDLE: (f32, f32) = (4.0, -2.5);
 
 pub struct Both {
     pub walk: Walk,
@@ -78,6 +81,28 @@ impl Both {
 
     pub fn accept_all(&mut self, calls: impl IntoIterator<Item = Call>) {
         calls.into_iter().for_each(|call| self.accept(call));
+    }
+
+    /// An accepted edit, drag or drop that is not unchanged.
+    pub fn change(&mut self, call: Call) {
+        let told = Told::Edited { unchanged: false };
+        assert_eq!(self.call(call), Answer { refusal: 0, told }, "{call:?}");
+    }
+
+    /// One that is unchanged: keys and player are as they were, the drag apart.
+    pub fn leave(&mut self, call: Call) {
+        let state = |both: &Self| {
+            let drag = Drag::default();
+            let player = Player {
+                drag,
+                ..both.player()
+            };
+            (player, both.held().key_bits())
+        };
+        let before = state(self);
+        let told = Told::Edited { unchanged: true };
+        assert_eq!(self.call(call), Answer { refusal: 0, told }, "{call:?}");
+        assert_eq!(state(self), before, "{call:?}");
     }
 
     /// A call that is declined by this number.

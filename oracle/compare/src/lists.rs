@@ -1,7 +1,7 @@
 //! Runs of lists, and what they came to: how many calls of each kind, how many
 //! of each refusal, how many next names, how many sheets saved as they were and
-//! otherwise, how many calls in each state of a drag, how many lists with more edits
-//! than a journal holds.
+//! otherwise, how many calls in each state of a drag, how many edits, drags and drops
+//! unchanged, how many lists with more edits than a journal holds.
 
 use crate::ours::Ours;
 use crate::saves::Saves;
@@ -10,6 +10,7 @@ use cases::calls::ends::{self, NextNames};
 use cases::calls::held::Held;
 use cases::calls::player::ROWS;
 use cases::calls::short;
+use cases::calls::unchanged::Unchanged;
 use cases::calls::walk::{Step, Walk};
 use cases::calls::{Answer, Call, NONE, Told};
 use cases::format::book::Book;
@@ -55,6 +56,7 @@ pub struct Counts {
     next_names: NextNames,
     saves: Saves,
     drags: Drags,
+    unchanged: Unchanged,
     /// Lists that passed 128 edits, and those whose plain machine was beside
     /// to the end.
     long: u64,
@@ -158,7 +160,8 @@ impl Counts {
     ) -> Option<String> {
         self.calls += 1;
         self.of_kind[usize::from(call.code())][usize::from(plain.refusal)] += 1;
-        self.drags.add(call, plain.refusal, &ours.drag());
+        self.drags.add(call, plain, &ours.drag());
+        self.unchanged.add(call, plain, held.player.redo);
         let given = ours.step(call, held);
         if given != *plain {
             return Some(format!("{call:?}\n  plain {plain:?}\n  here  {given:?}"));
@@ -186,6 +189,12 @@ impl Counts {
     /// Whether each call met each state of a drag.
     pub fn dragged_all_ways(&self) -> bool {
         self.drags.is_whole()
+    }
+
+    /// Whether edits, drags and drops, where there were any, came both unchanged and
+    /// not, and something to redo was kept.
+    pub fn edited_both_ways(&self) -> bool {
+        self.unchanged.is_whole()
     }
 
     /// Whether some tick ended with a next name, and some without one.
@@ -228,6 +237,7 @@ impl Counts {
         let drags = self.drags.each();
         let drags: Vec<String> = drags.map(|(what, count)| format!("{what} {count}")).into();
         println!("drags: {}", drags.join(", "));
+        println!("unchanged: {}", self.unchanged);
     }
 }
 

@@ -4,7 +4,7 @@
 use cases::bits::bits_of;
 use cases::calls::player::Drag;
 use cases::calls::spoil::{self, Spoil};
-use cases::calls::{Call, NONE};
+use cases::calls::{Answer, Call, NONE, Told};
 use compare::both::{Both, drag, field, key_edit, open, slope_edit};
 
 /// Calls that take keys, all but the last four of them readings.
@@ -271,22 +271,47 @@ fn a_closed_drag_of_any_numbers() {
     assert_eq!(both.player().drag, Drag::default());
 }
 
-/// A flag set by hand: the drop is one edit, whose two keys are alike.
+/// A drop after these changes by hand: how many edits it leaves, none where it is
+/// unchanged.
+fn dropped(both: &mut Both, spoils: &[Spoil]) -> u64 {
+    for spoil in spoils {
+        both.spoil(spoil);
+    }
+    let Answer { refusal, told } = both.spoiled_call(Call::DropDrag);
+    let standing = both.player().standing;
+    let unchanged = standing == 0;
+    assert_eq!((refusal, told), (0, Told::Edited { unchanged }));
+    standing
+}
+
+/// A flag set by hand: the key has its starting bits.
 #[test]
 fn moved_by_hand() {
     let mut both = Both::base();
     both.accept(open(0, 1));
-    both.spoil(&field(spoil::MOVED, 1));
-    assert_eq!(both.spoiled_call(Call::DropDrag).refusal, 0);
-    let player = both.player();
-    assert_eq!((player.accepted, player.reach, player.standing), (1, 1, 1));
-    assert_eq!(player.journal[0].before, player.journal[0].after);
+    assert_eq!(dropped(&mut both, &[field(spoil::MOVED, 1)]), 0);
 
-    // Cleared by hand: the key stays where it was dragged, and nothing is counted.
+    // Cleared by hand: the key stays where it was dragged.
     let mut both = Both::base();
     both.accept_all([open(0, 1), drag(5.0, 2.0)]);
-    both.spoil(&field(spoil::MOVED, 0));
-    assert_eq!(both.spoiled_call(Call::DropDrag).refusal, 0);
-    assert_eq!(both.player().accepted, 0);
+    assert_eq!(dropped(&mut both, &[field(spoil::MOVED, 0)]), 0);
     assert_eq!(both.key(1), [5.0, 2.0, 0.0]);
+}
+
+/// A drop goes by the starting key that the player carries, whatever the key was.
+#[test]
+fn started_by_hand() {
+    let away = || {
+        let mut both = Both::base();
+        both.accept_all([open(0, 1), drag(5.0, 2.0)]);
+        both
+    };
+    let (frame, value) = (start(0, 5.0), start(1, 2.0));
+    let mut both = away();
+    assert_eq!(dropped(&mut both, &[frame.clone(), value.clone()]), 0);
+    assert_eq!(both.key(1), [5.0, 2.0, 0.0]);
+    for one in [start(0, 4.0), start(1, -2.5), start(2, -0.0)] {
+        let spoils = [frame.clone(), value.clone(), one];
+        assert_eq!(dropped(&mut away(), &spoils), 1);
+    }
 }

@@ -19,6 +19,7 @@ _Static_assert(sizeof(menu_journal) == 3584, "menu_journal");
 _Static_assert(sizeof(menu_drag_state) == 20, "menu_drag_state");
 _Static_assert(sizeof(menu_player) == 3664, "menu_player");
 _Static_assert(sizeof(menu_played) == 3672, "menu_played");
+_Static_assert(sizeof(menu_edited) == 3672, "menu_edited");
 _Static_assert(sizeof(menu_ticked) == 3672, "menu_ticked");
 _Static_assert(sizeof(menu_read_one) == 8, "menu_read_one");
 _Static_assert(sizeof(menu_resolved_pane) == 48, "menu_resolved_pane");
@@ -37,6 +38,8 @@ _Static_assert(offsetof(menu_drag_state, track) == 2 && offsetof(menu_drag_state
 _Static_assert(offsetof(menu_drag_state, start_frame) == 8, "menu_drag_state");
 _Static_assert(offsetof(menu_drag_state, start_value) == 12, "menu_drag_state");
 _Static_assert(offsetof(menu_drag_state, start_slope) == 16, "menu_drag_state");
+_Static_assert(offsetof(menu_edited, refusal) == 0 && offsetof(menu_edited, unchanged) == 1, "menu_edited");
+_Static_assert(offsetof(menu_edited, player) == 8, "menu_edited");
 
 enum { KEYS = 9, PANES = 2, CHANNELS = PANES * MENU_PANE_CHANNELS + MENU_MATERIAL_CHANNELS, TRACK = 3, KEY = 1, PLACE = 6 };
 
@@ -91,10 +94,11 @@ static menu_player playing(void) {
 
 /* An edit of either kind, both undone, one made again, and undone. */
 static void editing(menu_player player) {
-    menu_played edited = menu_slope_edit(player, sheet, sheet_len, LENT_KEYS, TRACK, KEY, 0.5f);
-    CHECK(edited.refusal == MENU_OK && slopes[PLACE] == 0.5f);
+    menu_edited edited = menu_slope_edit(player, sheet, sheet_len, LENT_KEYS, TRACK, KEY, 0.5f);
+    CHECK(edited.refusal == MENU_OK && !edited.unchanged && slopes[PLACE] == 0.5f);
     edited = menu_key_edit(edited.player, sheet, sheet_len, LENT_KEYS, TRACK, KEY, 6, 20);
-    CHECK(edited.refusal == MENU_OK && frames[PLACE] == 6 && values[PLACE] == 20 && slopes[PLACE] == 0.5f);
+    CHECK(edited.refusal == MENU_OK && !edited.unchanged);
+    CHECK(frames[PLACE] == 6 && values[PLACE] == 20 && slopes[PLACE] == 0.5f);
     CHECK(edited.player.reach == 2 && edited.player.accepted == 2 && edited.player.standing == 2);
     const menu_journal *j = &edited.player.journal;
     CHECK(j->track[1] == TRACK && j->key[1] == KEY);
@@ -119,10 +123,47 @@ static bool same_drag(menu_drag_state a, menu_drag_state b) {
            a.start_frame == b.start_frame && a.start_value == b.start_value && a.start_slope == b.start_slope;
 }
 
-/* Declined by this number, with the player as it was: before the drag it has no padding. */
+/* Before the drag a player has no padding. */
+static bool same_player(menu_player a, menu_player b) {
+    return memcmp(&a, &b, offsetof(menu_player, drag)) == 0 && same_drag(a.drag, b.drag);
+}
+
+/* Declined by this number, with the player as it was. */
 static bool declined(menu_played answer, menu_player player, uint8_t number) {
-    return answer.refusal == number && memcmp(&answer.player, &player, offsetof(menu_player, drag)) == 0 &&
-           same_drag(answer.player.drag, player.drag);
+    return answer.refusal == number && same_player(answer.player, player);
+}
+
+static bool declined_edit(menu_edited answer, menu_player player, uint8_t number) {
+    return answer.refusal == number && !answer.unchanged && same_player(answer.player, player);
+}
+
+/* Accepted as unchanged, with this player. */
+static bool unchanged(menu_edited answer, menu_player player) {
+    return answer.refusal == MENU_OK && answer.unchanged && same_player(answer.player, player);
+}
+
+/* Edits that leave a key as it is, and drags that end where they began: after them an undone edit is redone. */
+static void returning(menu_player player) {
+    menu_edited edited = menu_key_edit(player, sheet, sheet_len, LENT_KEYS, TRACK, KEY, 6, 20);
+    player = menu_undo(edited.player, sheet, sheet_len, LENT_KEYS).player;
+    CHECK(unchanged(menu_key_edit(player, sheet, sheet_len, LENT_KEYS, TRACK, KEY, 8, 16), player));
+    CHECK(unchanged(menu_slope_edit(player, sheet, sheet_len, LENT_KEYS, TRACK, KEY, 0), player));
+    CHECK(unchanged(menu_key_edit(player, sheet, sheet_len, LENT_KEYS, TRACK, 0, -4, 0), player));
+    CHECK(declined_edit(menu_key_edit(player, sheet, sheet_len, LENT_KEYS, TRACK, KEY, NAN, 16), player, MENU_NOT_FINITE));
+
+    menu_player opened = menu_open_drag(player, sheet, sheet_len, LENT_KEYS, TRACK, KEY).player, moved = opened;
+    moved.drag.moved = true;
+    CHECK(unchanged(menu_drop_drag(opened, sheet, sheet_len, LENT_KEYS), player));
+    CHECK(unchanged(menu_drag(opened, sheet, sheet_len, LENT_KEYS, 8, 16), moved));
+    edited = menu_drag(opened, sheet, sheet_len, LENT_KEYS, 6, 20);
+    CHECK(edited.refusal == MENU_OK && !edited.unchanged && frames[PLACE] == 6 && values[PLACE] == 20);
+    edited = menu_drag(edited.player, sheet, sheet_len, LENT_KEYS, 8, 16);
+    CHECK(edited.refusal == MENU_OK && !edited.unchanged && frames[PLACE] == 8 && values[PLACE] == 16);
+    CHECK(unchanged(menu_drop_drag(edited.player, sheet, sheet_len, LENT_KEYS), player));
+
+    menu_played redone = menu_redo(player, sheet, sheet_len, LENT_KEYS);
+    CHECK(redone.refusal == MENU_OK && frames[PLACE] == 6 && values[PLACE] == 20);
+    CHECK(menu_undo(redone.player, sheet, sheet_len, LENT_KEYS).refusal == MENU_OK);
 }
 
 /* A key that is dragged three times, dropped and undone, then dragged and abandoned; and what is declined while a drag is
@@ -130,32 +171,34 @@ static bool declined(menu_played answer, menu_player player, uint8_t number) {
 static void dragging(menu_player player) {
     static const menu_drag_state closed = {0};
     CHECK(same_drag(player.drag, closed));
-    CHECK(declined(menu_drag(player, sheet, sheet_len, LENT_KEYS, 6, 20), player, MENU_DRAG));
-    CHECK(declined(menu_drop_drag(player, sheet, sheet_len, LENT_KEYS), player, MENU_DRAG));
+    CHECK(declined_edit(menu_drag(player, sheet, sheet_len, LENT_KEYS, 6, 20), player, MENU_DRAG));
+    CHECK(declined_edit(menu_drop_drag(player, sheet, sheet_len, LENT_KEYS), player, MENU_DRAG));
     CHECK(declined(menu_abandon_drag(player, sheet, sheet_len, LENT_KEYS), player, MENU_DRAG));
     CHECK(declined(menu_open_drag(player, sheet, sheet_len, LENT_KEYS, TRACK, 2), player, MENU_NO_SUCH));
 
-    menu_played sloped = menu_slope_edit(player, sheet, sheet_len, LENT_KEYS, TRACK, KEY, 0.5f);
+    menu_edited sloped = menu_slope_edit(player, sheet, sheet_len, LENT_KEYS, TRACK, KEY, 0.5f);
     menu_played opened = menu_open_drag(sloped.player, sheet, sheet_len, LENT_KEYS, TRACK, KEY);
     menu_drag_state start = {true, false, TRACK, KEY, 8, 16, 0.5f};
     player = opened.player;
     CHECK(opened.refusal == MENU_OK && same_drag(player.drag, start));
     CHECK(declined(menu_open_drag(player, sheet, sheet_len, LENT_KEYS, TRACK, KEY), player, MENU_DRAG));
-    CHECK(declined(menu_key_edit(player, sheet, sheet_len, LENT_KEYS, TRACK, KEY, 6, 20), player, MENU_DRAG));
-    CHECK(declined(menu_slope_edit(player, sheet, sheet_len, LENT_KEYS, TRACK, KEY, 1), player, MENU_DRAG));
+    CHECK(declined_edit(menu_key_edit(player, sheet, sheet_len, LENT_KEYS, TRACK, KEY, 6, 20), player, MENU_DRAG));
+    CHECK(declined_edit(menu_slope_edit(player, sheet, sheet_len, LENT_KEYS, TRACK, KEY, 1), player, MENU_DRAG));
     CHECK(declined(menu_undo(player, sheet, sheet_len, LENT_KEYS), player, MENU_DRAG));
     CHECK(declined(menu_redo(player, sheet, sheet_len, LENT_KEYS), player, MENU_DRAG));
-    CHECK(declined(menu_drag(player, sheet, sheet_len, LENT_KEYS, NAN, 0), player, MENU_NOT_FINITE));
+    CHECK(declined_edit(menu_drag(player, sheet, sheet_len, LENT_KEYS, NAN, 0), player, MENU_NOT_FINITE));
 
-    menu_played dragged = opened;
+    menu_edited dragged;
     for (int n = 1; n <= 3; n++) {
-        dragged = menu_drag(dragged.player, sheet, sheet_len, LENT_KEYS, 4, (float)(10 * n));
-        CHECK(dragged.refusal == MENU_OK && dragged.player.drag.moved && dragged.player.reach == 1);
+        dragged = menu_drag(player, sheet, sheet_len, LENT_KEYS, 4, (float)(10 * n));
+        player = dragged.player;
+        CHECK(dragged.refusal == MENU_OK && !dragged.unchanged && player.drag.moved && player.reach == 1);
         CHECK(frames[PLACE] == 4 && values[PLACE] == 10 * n && slopes[PLACE] == 0.5f);
-        CHECK(menu_read_pane(dragged.player, LENT, 1, MENU_PANE_TRANSLATE_X).number == 10 * n);
+        CHECK(menu_read_pane(player, LENT, 1, MENU_PANE_TRANSLATE_X).number == 10 * n);
     }
-    menu_played dropped = menu_drop_drag(dragged.player, sheet, sheet_len, LENT_KEYS);
-    CHECK(dropped.refusal == MENU_OK && same_drag(dropped.player.drag, closed) && values[PLACE] == 30);
+    menu_edited dropped = menu_drop_drag(player, sheet, sheet_len, LENT_KEYS);
+    CHECK(dropped.refusal == MENU_OK && !dropped.unchanged && values[PLACE] == 30);
+    CHECK(same_drag(dropped.player.drag, closed));
     CHECK(dropped.player.reach == 2 && dropped.player.accepted == 2 && dropped.player.standing == 2);
     const menu_journal *j = &dropped.player.journal;
     CHECK(j->track[1] == TRACK && j->key[1] == KEY && j->before_slope[1] == 0.5f && j->after_slope[1] == 0.5f);
@@ -178,7 +221,7 @@ static void dragging(menu_player player) {
 static void saving(menu_player player) {
     static uint8_t saved[sizeof sheet], untouched[sizeof sheet];
     float again[3][KEYS];
-    menu_played edited = menu_key_edit(player, sheet, sheet_len, LENT_KEYS, TRACK, KEY, 6, 20);
+    menu_edited edited = menu_key_edit(player, sheet, sheet_len, LENT_KEYS, TRACK, KEY, 6, 20);
     CHECK(menu_save(edited.player, sheet, sheet_len, LENT_KEYS, saved, sheet_len) == MENU_OK);
     CHECK(memcmp(saved, sheet, sheet_len) != 0);
     CHECK(menu_load(saved, sheet_len, again[0], KEYS, again[1], KEYS, again[2], KEYS).refusal == MENU_OK);
@@ -275,6 +318,7 @@ int main(int count, char **arguments) {
     menu_player player = playing();
     readings(player);
     editing(player);
+    returning(player);
     dragging(player);
     saving(player);
     shapes();

@@ -2,7 +2,7 @@
 //! which meet at the same keys; and what the drags of a run came to.
 
 use super::player::Drag;
-use super::{Call, NONE, Request};
+use super::{Answer, Call, NONE, Request, Told, table};
 use crate::format::book::Book;
 use crate::format::sheet::Sheet;
 use crate::sheets::damage;
@@ -27,13 +27,14 @@ pub struct Case {
     seen: Call,
 }
 
-/// A key that is dragged: its animation, track and number, two drags, an edit that
-/// meets them, and a call that ends the animation's turn.
+/// A key that is dragged: its animation, track and number, where it is loaded, two
+/// drags, an edit that meets them, and a call that ends the animation's turn.
 struct Dragged {
     what: &'static str,
     animation: u16,
     track: u16,
     key: u16,
+    loaded: (f32, f32),
     drags: [(f32, f32); 2],
     edit: Call,
     other: Call,
@@ -42,20 +43,28 @@ struct Dragged {
 
 /// A key with room on both sides, the last one, one without room until an edit makes
 /// some, one of a Step and one of a Constant: freshly loaded, and with edits that
-/// stand and one that can be made again.
+/// stand and one that can be made again. Where there is room, one of the drags leads
+/// to where the key is then.
 pub fn cases() -> Vec<Case> {
     let plain = damage::base_pair();
     let mut tight = plain.clone();
     tight.0.frames[..3].fill(1.0);
-    let mixed = [key(0, 1, 5.0, 1.0), slope(0, 1, 3.0), key(0, 0, 1.0, 2.0)];
+    let mixed = [key(0, 1, 6.0, 2.0), slope(0, 1, 3.0), key(0, 0, 1.0, 2.0)];
     let slopes = [slope(0, 0, 1.0), slope(0, 1, 2.0), slope(0, 2, 3.0)];
-    let keys = |track| [0, 1, 2].map(|n| key(track, n, f32::from(n) + 0.5, f32::from(n)));
-    // The second drag is clamped; the edit moves its lower bound.
+    let steps = [
+        key(1, 0, 0.5, 2.0),
+        key(1, 1, 2.5, 0.0),
+        key(1, 2, 3.5, 4.0),
+    ];
+    let constants = [0, 1, 2].map(|n| key(2, n, 0.5, f32::from(n) + 8.0));
+    // The second drag is clamped to where the key is loaded; the edit moves its lower
+    // bound.
     let room = Dragged {
         what: "room",
         animation: 0,
         track: 0,
         key: 1,
+        loaded: (8.0 - 0.01, -1.0),
         drags: [(6.0, 2.0), (20.0, -1.0)],
         edit: key(0, 0, 5.5, 0.5),
         other: Call::Play(1),
@@ -70,6 +79,7 @@ pub fn cases() -> Vec<Case> {
     let last = Dragged {
         what: "the last key",
         key: 2,
+        loaded: (9.5, 1.0),
         drags: [(9.5, 1.0), (-3.0, 2.0)],
         edit: slope(0, 2, 5.0),
         seen: 7.0,
@@ -78,26 +88,30 @@ pub fn cases() -> Vec<Case> {
     // Row 9 declines both drags until the edit has moved the key before.
     let no_room = Dragged {
         what: "no room",
+        loaded: (1.0, -2.5),
         drags: [(0.5, 2.0), (1.0, 3.0)],
         edit: key(0, 0, 0.25, 1.0),
         seen: 0.375,
         ..room
     };
+    // The first drag rounds to the value that is loaded.
     let step = Dragged {
         what: "a Step",
         track: 1,
+        loaded: (1.5, 3.0),
         drags: [(1.5, 2.5), (2.5, -0.4)],
         edit: key(1, 0, 1.0, 7.0),
         seen: 2.0,
         ..room
     };
-    // The edit is of the dragged key itself.
+    // The edit is of the dragged key itself, and changes the sign of its zero.
     let constant = Dragged {
         what: "a Constant",
         animation: 1,
         track: 2,
+        loaded: (0.0, -0.0),
         drags: [(5.0, 9.0), (-1.0, -0.0)],
-        edit: key(2, 1, 3.0, 8.0),
+        edit: key(2, 1, 3.0, 0.0),
         other: Call::Play(0),
         seen: 1.0,
         ..room
@@ -107,8 +121,8 @@ pub fn cases() -> Vec<Case> {
         (inactive, &plain, mixed),
         (last, &plain, mixed),
         (no_room, &tight, slopes),
-        (step, &plain, keys(1)),
-        (constant, &plain, keys(2)),
+        (step, &plain, steps),
+        (constant, &plain, constants),
     ];
     let all = all.into_iter();
     all.flat_map(|(dragged, pair, edits)| dragged.cases(pair, &edits))
@@ -118,6 +132,9 @@ pub fn cases() -> Vec<Case> {
 impl Dragged {
     /// Freshly loaded, and with edits, the last of them undone.
     fn cases(&self, (sheet, book): &(Sheet, Book), edits: &[Call]) -> [Case; 2] {
+        let mut sheet = sheet.clone();
+        let place = table::place(&sheet, self.track, self.key);
+        (sheet.frames[place], sheet.values[place]) = self.loaded;
         let play = vec![Call::Play(self.animation)];
         let edited = [&play[..], edits, &[Call::Undo]].concat();
         [play, edited].map(|start| Case {
@@ -184,13 +201,20 @@ impl Case {
     }
 }
 
+/// What no drag of a key without room comes to: the clamp keeps it from where it was.
+pub const BACK: &str = "dropped on its starting bits";
+
 /// How many calls met each state of a drag.
 #[derive(Clone, Copy, Debug, Default)]
 pub struct Drags {
     opened: u64,
     dragged: u64,
+    dropped: u64,
+    /// Dropped on its starting bits.
+    back: u64,
+    /// Dropped with no accepted drag.
+    untouched: u64,
     /// Without an accepted drag, and with one.
-    dropped: [u64; 2],
     abandoned: [u64; 2],
     /// Accepted while one was open.
     moves: u64,
@@ -206,13 +230,15 @@ pub struct Drags {
 
 impl Drags {
     /// A call on a player with this drag.
-    pub fn add(&mut self, call: &Call, refusal: u8, before: &Drag) {
-        let moved = usize::from(before.moved);
-        let count = match (call, refusal) {
+    pub fn add(&mut self, call: &Call, answer: &Answer, before: &Drag) {
+        let unchanged = answer.told == Told::Edited { unchanged: true };
+        let count = match (call, answer.refusal) {
             (Call::OpenDrag { .. }, 0) => &mut self.opened,
             (Call::Drag { .. }, 0) => &mut self.dragged,
-            (Call::DropDrag, 0) => &mut self.dropped[moved],
-            (Call::AbandonDrag, 0) => &mut self.abandoned[moved],
+            (Call::DropDrag, 0) if !before.moved => &mut self.untouched,
+            (Call::DropDrag, 0) if unchanged => &mut self.back,
+            (Call::DropDrag, 0) => &mut self.dropped,
+            (Call::AbandonDrag, 0) => &mut self.abandoned[usize::from(before.moved)],
             (Call::Save { .. }, 0) if before.open => &mut self.saves,
             (_, 0) if before.open && call.shows() => &mut self.moves,
             (_, 0) if before.open && call.takes_book() => &mut self.readings,
@@ -228,12 +254,13 @@ impl Drags {
     }
 
     /// Each count with its name.
-    pub fn each(&self) -> [(&'static str, u64); 15] {
+    pub fn each(&self) -> [(&'static str, u64); 16] {
         [
             ("opened", self.opened),
             ("dragged", self.dragged),
-            ("dropped as an edit", self.dropped[1]),
-            ("dropped with no accepted drag", self.dropped[0]),
+            ("dropped as an edit", self.dropped),
+            (BACK, self.back),
+            ("dropped with no accepted drag", self.untouched),
             ("abandoned", self.abandoned[1]),
             ("abandoned with no accepted drag", self.abandoned[0]),
             ("plays, poses and ticks while open", self.moves),

@@ -186,7 +186,10 @@ impl Held {
                 track,
                 key,
                 request,
-            } => self.edit(track, key, request),
+            } => {
+                let unchanged = self.edit(track, key, request);
+                return Told::Edited { unchanged };
+            }
             Call::Undo => {
                 let entry = self.player.undo_entry();
                 self.put_back(entry.track, entry.key, entry.before);
@@ -203,13 +206,15 @@ impl Held {
             }
             Call::Drag { frame, value } => {
                 let Drag { track, key, .. } = self.player.drag;
-                self.request(track, key, Request::Key { frame, value });
+                let unchanged = self.request(track, key, Request::Key { frame, value });
                 self.player.drag.moved = true;
+                return Told::Edited { unchanged };
             }
             Call::DropDrag => {
                 let Drag { track, key, .. } = self.player.drag;
                 let now = self.numbers(track, key);
-                self.player.dropped(now);
+                let unchanged = self.player.dropped(now);
+                return Told::Edited { unchanged };
             }
             Call::AbandonDrag => {
                 let drag = std::mem::take(&mut self.player.drag);
@@ -271,23 +276,29 @@ impl Held {
         }
     }
 
-    fn edit(&mut self, track: u16, key: u16, request: Request) {
+    /// An edit: whether it is unchanged. Else it has an entry in the journal.
+    fn edit(&mut self, track: u16, key: u16, request: Request) -> bool {
         let before = self.numbers(track, key);
-        self.request(track, key, request);
-        self.player.edited(Entry {
-            track,
-            key,
-            before,
-            after: self.numbers(track, key),
-        });
+        let unchanged = self.request(track, key, request);
+        if !unchanged {
+            self.player.edited(Entry {
+                track,
+                key,
+                before,
+                after: self.numbers(track, key),
+            });
+        }
+        unchanged
     }
 
     /// Makes a request in the track's own animation, which for an edit is the active
-    /// one.
-    fn request(&mut self, track: u16, key: u16, request: Request) {
+    /// one: whether the key has the same bits as before.
+    fn request(&mut self, track: u16, key: u16, request: Request) -> bool {
+        let before = self.numbers(track, key);
         let animation = table::animation(&self.sheet, track);
         self.reference.edit(animation, track, key, request);
         self.reference.take(usize::from(track), &mut self.keys);
+        before == self.numbers(track, key)
     }
 
     /// A key's frame, value and slope, as bits.

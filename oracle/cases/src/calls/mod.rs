@@ -17,6 +17,7 @@ pub mod spoil;
 pub mod stored;
 pub mod table;
 pub mod text;
+pub mod unchanged;
 pub mod views;
 pub mod walk;
 
@@ -131,6 +132,10 @@ impl Answer {
 pub enum Told {
     /// A call that answers with its refusal alone.
     Done,
+    /// An edit, a drag or a drop.
+    Edited {
+        unchanged: bool,
+    },
     Tick(Tick),
     One(One),
     All {

@@ -113,11 +113,12 @@ impl Player {
         };
     }
 
-    /// Closes the drag. Where one was accepted it is an edit, from the key as it was
-    /// at opening to the key as it is `now`.
-    pub fn dropped(&mut self, now: [u32; 3]) {
+    /// Closes the drag: whether it is unchanged, with none accepted or the key `now` as
+    /// it was at opening. Else it is an edit from the one to the other.
+    pub fn dropped(&mut self, now: [u32; 3]) -> bool {
         let drag = std::mem::take(&mut self.drag);
-        if drag.moved {
+        let unchanged = !drag.moved || drag.start == now;
+        if !unchanged {
             self.edited(Entry {
                 track: drag.track,
                 key: drag.key,
@@ -125,6 +126,7 @@ impl Player {
                 after: now,
             });
         }
+        unchanged
     }
 
     pub fn undid(&mut self) {

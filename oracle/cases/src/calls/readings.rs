@@ -194,14 +194,12 @@ pub fn refused(sheet: &Sheet, book: &LentBook, call: &Call, refusal: u8) -> Answ
             alpha: vec![FILL_BITS; book.panes_lent(2, short)],
             influence: vec![FILL_BITS; book.panes_lent(3, short)],
         },
+        Call::Edit { .. } | Call::Drag { .. } | Call::DropDrag => Told::Edited { unchanged: false },
         Call::Play(_)
         | Call::Pose(..)
-        | Call::Edit { .. }
         | Call::Undo
         | Call::Redo
         | Call::OpenDrag { .. }
-        | Call::Drag { .. }
-        | Call::DropDrag
         | Call::AbandonDrag => Told::Done,
         Call::Save { short } => Told::Saved(vec![FILL_BYTE; buffer_length(sheet.length(), short)]),
     };

@@ -10,9 +10,10 @@
 //! random lists, until COUNT of their calls were compared. In all but the second of
 //! these some tick must end with a next name and some without one; in the short and
 //! the random lists some save must come with all edits undone and some give another
-//! sheet; and in those with drags each state of one must be met by each call that
-//! can. A COUNT below 20,000 may be too small for that. `calls 0 SEED` runs the one
-//! random list of that seed, and tells its steps.
+//! sheet; in those with edits some of each kind must be unchanged and some not, and
+//! some unchanged ones keep something to redo; and in those with drags each state of
+//! one must be met by each call that can. A COUNT below 20,000 may be too small for
+//! that. `calls 0 SEED` runs the one random list of that seed, and tells its steps.
 
 use cases::calls::{drags, ends, short};
 use cases::random::Random;
@@ -32,6 +33,7 @@ fn main() {
     let what = format!("{lists} short lists on each of {sheets} sheets");
     report_part(&counts, &what, found);
     require_saves(&counts, &what);
+    require_unchanged(&counts, &what);
 
     let mut counts = Counts::default();
     let found = counts.each_short_drag();
@@ -40,6 +42,7 @@ fn main() {
     report(&counts, &what, found);
     require_saves(&counts, &what);
     require_drags(&counts, &what);
+    require_unchanged(&counts, &what);
 
     let mut counts = Counts::default();
     let found = counts.each_end();
@@ -53,6 +56,7 @@ fn main() {
     let found = counts.each_spoil_alone();
     report_part(&counts, "each thing spoiled alone", found);
     require_drags(&counts, "each thing spoiled alone");
+    require_unchanged(&counts, "each thing spoiled alone");
 
     let mut counts = Counts::default();
     let found = random_lists(&mut counts, count, seed);
@@ -61,6 +65,7 @@ fn main() {
     report_part(&counts, &what, found);
     require_saves(&counts, &what);
     require_drags(&counts, &what);
+    require_unchanged(&counts, &what);
 }
 
 /// Random lists until so many calls were made; of those that differ, the one
@@ -115,6 +120,15 @@ fn require_saves(counts: &Counts, what: &str) {
 fn require_drags(counts: &Counts, what: &str) {
     if !counts.dragged_all_ways() {
         println!("{what}: some call never met a drag in some state");
+        std::process::exit(1);
+    }
+}
+
+/// A part with edits fails too where all of a kind were unchanged or none was, or none
+/// of them kept something to redo.
+fn require_unchanged(counts: &Counts, what: &str) {
+    if !counts.edited_both_ways() {
+        println!("{what}: edits, drags or drops were not unchanged and otherwise");
         std::process::exit(1);
     }
 }

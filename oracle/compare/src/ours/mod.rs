@@ -11,7 +11,9 @@ use cases::calls::held::Held;
 use cases::calls::player::Drag;
 use cases::calls::spoil::Spoil;
 use cases::calls::{Answer, Call, FILL_BITS, FILL_BYTE, NONE, One, Request, Tick, Told};
-use dovebolt::{Keys, MaterialChannel, PaneChannel, Reading, Refusal, ResolvedPane, Srt, raw};
+use dovebolt::{
+    Edited, Keys, MaterialChannel, PaneChannel, Reading, Refusal, ResolvedPane, Srt, raw,
+};
 
 #[derive(Clone)]
 pub struct Ours {
@@ -105,17 +107,17 @@ impl Ours {
                 track,
                 key,
                 request: Request::Key { frame, value },
-            } => done(player.key_edit(s, keys, track, key, frame, value)),
+            } => edited(player.key_edit(s, keys, track, key, frame, value)),
             Call::Edit {
                 track,
                 key,
                 request: Request::Slope(slope),
-            } => done(player.slope_edit(s, keys, track, key, slope)),
+            } => edited(player.slope_edit(s, keys, track, key, slope)),
             Call::Undo => done(player.undo(s, keys)),
             Call::Redo => done(player.redo(s, keys)),
             Call::OpenDrag { track, key } => done(player.open_drag(s, keys, track, key)),
-            Call::Drag { frame, value } => done(player.drag(s, keys, frame, value)),
-            Call::DropDrag => done(player.drop_drag(s, keys)),
+            Call::Drag { frame, value } => edited(player.drag(s, keys, frame, value)),
+            Call::DropDrag => edited(player.drop_drag(s, keys)),
             Call::AbandonDrag => done(player.abandon_drag(s, keys)),
             Call::NextName(animation) => next_name(held, animation),
             Call::Save { short } => self.save(held, short),
@@ -212,6 +214,15 @@ fn done(ours: Result<(), Refusal>) -> Answer {
     Answer {
         refusal: refusal(&ours),
         told: Told::Done,
+    }
+}
+
+fn edited(ours: Result<Edited, Refusal>) -> Answer {
+    Answer {
+        refusal: refusal(&ours),
+        told: Told::Edited {
+            unchanged: ours == Ok(Edited::Unchanged),
+        },
     }
 }
 

@@ -1,6 +1,6 @@
 //! What a declined call hands back by value beside its number: the player as it
-//! was, and zeros. The package `dovebolt` drops these, so the exports are called
-//! as they are.
+//! was, zeros, and `unchanged` not set. The package `dovebolt` drops these, so the
+//! exports are called as they are.
 
 use cases::bits::bits_of;
 use cases::calls::held::Held;
@@ -14,7 +14,9 @@ use super::single;
 pub fn keeps_all(call: &Call, held: &Held, player: raw::Player, keys: &mut Keys) {
     let kept = match call {
         Call::Play(_) | Call::Pose(..) | Call::Tick { .. } => view_call(call, held, player),
-        Call::OpenDrag { .. } | Call::DropDrag => drag_call(call, held, player, keys),
+        Call::Edit { .. } | Call::Drag { .. } | Call::DropDrag => {
+            edit_call(call, held, player, keys)
+        }
         _ if call.edits() => key_call(call, held, player, keys),
         _ => zeros(call, held, player, keys),
     };
@@ -91,14 +93,14 @@ fn view_call(call: &Call, held: &Held, player: raw::Player) -> bool {
     is_kept(played.refusal, &played.player, &player)
 }
 
-fn key_call(call: &Call, held: &Held, player: raw::Player, keys: &mut Keys) -> bool {
+fn edit_call(call: &Call, held: &Held, player: raw::Player, keys: &mut Keys) -> bool {
     let s = &held.sheet_bytes;
     let (at, len) = (s.as_ptr(), s.len());
     let [f, v, m] = [&mut keys.frames, &mut keys.values, &mut keys.slopes]
         .map(|array| (array.as_mut_ptr(), array.len()));
     // SAFETY: each pointer has the length of its slice, and the three arrays are
     // lent alone.
-    let played = unsafe {
+    let edited = unsafe {
         match *call {
             Call::Edit {
                 track,
@@ -114,33 +116,34 @@ fn key_call(call: &Call, held: &Held, player: raw::Player, keys: &mut Keys) -> b
             } => raw::menu_slope_edit(
                 player, at, len, f.0, f.1, v.0, v.1, m.0, m.1, track, key, slope,
             ),
-            Call::Undo => raw::menu_undo(player, at, len, f.0, f.1, v.0, v.1, m.0, m.1),
-            Call::Redo => raw::menu_redo(player, at, len, f.0, f.1, v.0, v.1, m.0, m.1),
             Call::Drag { frame, value } => {
                 raw::menu_drag(player, at, len, f.0, f.1, v.0, v.1, m.0, m.1, frame, value)
+            }
+            Call::DropDrag => raw::menu_drop_drag(player, at, len, f.0, f.1, v.0, v.1, m.0, m.1),
+            _ => return false,
+        }
+    };
+    !edited.unchanged && is_kept(edited.refusal, &edited.player, &player)
+}
+
+/// The other calls that take keys and hand back the player.
+fn key_call(call: &Call, held: &Held, player: raw::Player, keys: &mut Keys) -> bool {
+    let s = &held.sheet_bytes;
+    let (at, len) = (s.as_ptr(), s.len());
+    let [f, v, m] = [&mut keys.frames, &mut keys.values, &mut keys.slopes]
+        .map(|array| (array.as_mut_ptr(), array.len()));
+    // SAFETY: each pointer has the length of its slice, and the three arrays are
+    // lent alone.
+    let played = unsafe {
+        match *call {
+            Call::Undo => raw::menu_undo(player, at, len, f.0, f.1, v.0, v.1, m.0, m.1),
+            Call::Redo => raw::menu_redo(player, at, len, f.0, f.1, v.0, v.1, m.0, m.1),
+            Call::OpenDrag { track, key } => {
+                raw::menu_open_drag(player, at, len, f.0, f.1, v.0, v.1, m.0, m.1, track, key)
             }
             Call::AbandonDrag => {
                 raw::menu_abandon_drag(player, at, len, f.0, f.1, v.0, v.1, m.0, m.1)
             }
-            _ => return false,
-        }
-    };
-    is_kept(played.refusal, &played.player, &player)
-}
-
-/// The calls of a drag that leave the keys.
-fn drag_call(call: &Call, held: &Held, player: raw::Player, keys: &Keys) -> bool {
-    let s = &held.sheet_bytes;
-    let (at, len) = (s.as_ptr(), s.len());
-    let [f, v, m] =
-        [&keys.frames, &keys.values, &keys.slopes].map(|array| (array.as_ptr(), array.len()));
-    // SAFETY: each pointer has the length of its slice.
-    let played = unsafe {
-        match *call {
-            Call::OpenDrag { track, key } => {
-                raw::menu_open_drag(player, at, len, f.0, f.1, v.0, v.1, m.0, m.1, track, key)
-            }
-            Call::DropDrag => raw::menu_drop_drag(player, at, len, f.0, f.1, v.0, v.1, m.0, m.1),
             _ => return false,
         }
     };

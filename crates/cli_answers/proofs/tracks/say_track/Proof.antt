@@ -5,10 +5,10 @@ use Rattle.cli_answers.proofs.tracks.say_track.Statement.{statement}
 use Rattle.cli_answers.proofs.tracks.say_track.Tie as tie
 
 abbrev Inv-loop : tie.InvT-loop
-Inv-loop s track frames values slopes first count next₀ t12 t13 t14 t15 t16 t17 next = Unit {0}
+Inv-loop s track frames values slopes first count next₀ t12 t13 next = Unit {0}
 
 abbrev μ-loop : tie.MeasureT-loop
-μ-loop s track frames values slopes first count next₀ t12 t13 t14 t15 t16 t17 next = count - next
+μ-loop s track frames values slopes first count next₀ t12 t13 next = count - next
 
 target-row-requires : tie.Need-target-row-requires Inv-loop μ-loop
 target-row-requires c κs = search needs
@@ -40,29 +40,8 @@ say-count-requires-2 c κs = search needs
 wrapping-add-usize-requires : tie.Need-wrapping-add-usize-requires Inv-loop μ-loop
 wrapping-add-usize-requires c κs = search needs
 
-slice-aggregate-say-key-number : tie.Need-slice-aggregate-say-key-number Inv-loop μ-loop
-slice-aggregate-say-key-number c = search needs
-
-say-key-number-requires : tie.Need-say-key-number-requires Inv-loop μ-loop
-say-key-number-requires c κs = search needs
-
-slice-aggregate-say-key-number-2 : tie.Need-slice-aggregate-say-key-number-2 Inv-loop μ-loop
-slice-aggregate-say-key-number-2 c = search needs
-
-say-key-number-requires-2 : tie.Need-say-key-number-requires-2 Inv-loop μ-loop
-say-key-number-requires-2 c κs = search needs
-
-slice-aggregate-say-key-number-3 : tie.Need-slice-aggregate-say-key-number-3 Inv-loop μ-loop
-slice-aggregate-say-key-number-3 c = search needs
-
-say-key-number-requires-3 : tie.Need-say-key-number-requires-3 Inv-loop μ-loop
-say-key-number-requires-3 c κs = search needs
-
-slice-aggregate-say-3 : tie.Need-slice-aggregate-say-3 Inv-loop μ-loop
-slice-aggregate-say-3 c = search needs
-
-say-requires-3 : tie.Need-say-requires-3 Inv-loop μ-loop
-say-requires-3 c κs = search needs
+say-numbers-requires : tie.Need-say-numbers-requires Inv-loop μ-loop
+say-numbers-requires c κs = search needs
 
 loop-less : tie.Need-loop-less Inv-loop μ-loop
 loop-less c = search needs
@@ -89,14 +68,7 @@ say-track-spec =
     say-requires-2
     say-count-requires-2
     wrapping-add-usize-requires
-    slice-aggregate-say-key-number
-    say-key-number-requires
-    slice-aggregate-say-key-number-2
-    say-key-number-requires-2
-    slice-aggregate-say-key-number-3
-    say-key-number-requires-3
-    slice-aggregate-say-3
-    say-requires-3
+    say-numbers-requires
     loop-less
     loop-again
     returns)

@@ -1,7 +1,5 @@
--- `drop_drag` gives `dropOf`: the key stays where it is, as one edit if a drag was accepted.
-use Rattle.menu.specs.Calls.{dropOf}
-use Rattle.menu.proofs.Results.{played-not, played}
-use Rattle.menu.proofs.Drags.{close-allowed, dropped-is}
+-- `drop_drag` gives `dropOf`: the key stays where it is, as one edit unless it is unchanged.
+use Rattle.menu.proofs.Drags.{close-allowed, drop-not, dropped-is}
 use borrow.Author.Needs.{needs}
 use Rattle.menu.proofs.dragging.drop_drag.Statement.{statement}
 use Rattle.menu.proofs.dragging.drop_drag.Tie as tie
@@ -10,8 +8,7 @@ close-refusal-requires : tie.Need-close-refusal-requires
 close-refusal-requires c κs = search needs
 
 returns : tie.Need-returns
-unfolding dropOf
-returns c = played-not _ _ (c .before .close-refusal .ensures) (c .if1 .taken)
+returns c = drop-not _ _ _ _ _ (c .before .close-refusal .ensures) (c .if1 .taken)
 
 cast-spot-of : tie.Need-cast-spot-of
 cast-spot-of c = search needs
@@ -27,18 +24,21 @@ key-at-requires c κs =
     let w = close-allowed _ _ _ _ _ (at-if1 .before .close-refusal .ensures) (at-if1 .if1 .left) in
     rw (c .spot-of .ensures) (w .inside .frames .here, w .inside .values, w .inside .slopes)
 
+unchanged-requires : tie.Need-unchanged-requires
+unchanged-requires c κs = search needs
+
 dropped-requires : tie.Need-dropped-requires
 dropped-requires c κs =
-    let at-if1 = c .before .before .before .before in
+    let at-if1 = c .before .before .before .before .before in
     close-allowed _ _ _ _ _ (at-if1 .before .close-refusal .ensures) (at-if1 .if1 .left) .counts
 
 returns-2 : tie.Need-returns-2
-unfolding dropOf
 returns-2 c =
-    let at-spot-of = c .before .before in
+    let at-unchanged = c .before in
+    let at-key-at = at-unchanged .before in
+    let at-spot-of = at-key-at .before in
     let at-if1 = at-spot-of .before .before .before in
-    played _ _ (at-if1 .before .close-refusal .ensures) (at-if1 .if1 .left)
-    (dropped-is _ _ _ _ _ (at-if1 .before .close-refusal .ensures) _ _ (at-spot-of .spot-of .ensures) (c .before .key-at .ensures) (c .dropped .ensures))
+    dropped-is _ _ _ _ _ (at-if1 .before .close-refusal .ensures) _ _ (at-if1 .if1 .left) (at-spot-of .spot-of .ensures) (at-key-at .key-at .ensures) (at-unchanged .unchanged .ensures) (c .dropped .ensures)
 
 pub drop-drag-spec : {M : Type 1} → statement M
 drop-drag-spec =
@@ -49,5 +49,6 @@ drop-drag-spec =
     cast-spot-of
     spot-of-requires
     key-at-requires
+    unchanged-requires
     dropped-requires
     returns-2)

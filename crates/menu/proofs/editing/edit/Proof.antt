@@ -1,7 +1,6 @@
--- `edit` gives `editOf`, refusal, player and all three key arrays: the edit of either kind: the key is made and put in its place, and its entry goes into the journal.
-use Rattle.menu.specs.Calls.{editOf}
-use Rattle.menu.proofs.Results.{changed-not}
-use Rattle.menu.proofs.Edits.{allowed, made-is}
+-- `edit` gives `editOf`, refusal, whether it is unchanged, player and all three key arrays: the key is made and put in its place, and its entry goes into
+-- the journal; unchanged, it is neither.
+use Rattle.menu.proofs.Edits.{allowed, unchanged-is, edit-not, same-is, made-is}
 use borrow.Author.Needs.{needs}
 use Rattle.menu.proofs.editing.edit.Statement.{statement}
 use Rattle.menu.proofs.editing.edit.Tie as tie
@@ -19,8 +18,7 @@ same-length-3 : tie.Need-same-length-3
 same-length-3 c = search needs
 
 returns : tie.Need-returns
-unfolding editOf
-returns c = changed-not _ _ _ _ (c .before .edit-refusal .ensures) (c .if1 .taken)
+returns c = edit-not _ _ _ _ _ _ _ _ _ (c .before .edit-refusal .ensures) (c .if1 .taken)
 
 spot-of-requires : tie.Need-spot-of-requires
 spot-of-requires c κs = let w = allowed _ _ _ _ _ _ _ _ _ (c .before .edit-refusal .ensures) (c .if1 .left) in (w .sheet, w .on)
@@ -39,18 +37,8 @@ edited-requires c κs =
     let at-edit-refusal = at-if1 .before in
     let w = allowed _ _ _ _ _ _ _ _ _ (at-edit-refusal .edit-refusal .ensures) (at-if1 .if1 .left) in rw (at-spot-of .spot-of .ensures) (w .inside)
 
-put-key-requires : tie.Need-put-key-requires
-put-key-requires c κs =
-    let at-spot-of = c .before .before .before .before .before .before .before .before .before .before .before in
-    let at-if1 = at-spot-of .before in
-    let at-edit-refusal = at-if1 .before in
-    let w = allowed _ _ _ _ _ _ _ _ _ (at-edit-refusal .edit-refusal .ensures) (at-if1 .if1 .left) in rw (at-spot-of .spot-of .ensures) (record { frames = w .inside .frames .here; values = w .inside .values; slopes = w .inside .slopes })
-
-after-edit-requires : tie.Need-after-edit-requires
-after-edit-requires c κs =
-    let at-if1 = c .before .before .before .before .before .before .before .before .before .before .before .before .before .before .before .before .before .before .before in
-    let at-edit-refusal = at-if1 .before in
-    (allowed _ _ _ _ _ _ _ _ _ (at-edit-refusal .edit-refusal .ensures) (at-if1 .if1 .left)) .counts
+same-key-requires : tie.Need-same-key-requires
+same-key-requires c κs = search needs
 
 same-length-4 : tie.Need-same-length-4
 same-length-4 c = search needs
@@ -63,13 +51,50 @@ same-length-6 c = search needs
 
 returns-2 : tie.Need-returns-2
 returns-2 c =
+    let at-same-key = c .before in
+    let at-edited = at-same-key .before in
+    let at-key-at = at-edited .before .before .before .before in
+    let at-spot-of = at-key-at .before .before .before .before in
+    let at-if1 = at-spot-of .before in
+    same-is _ _ _ _ _ _ _ _ _ (at-if1 .before .edit-refusal .ensures) (at-if1 .if1 .left)
+    (unchanged-is _ _ _ _ _ _ _ _ _ _ (at-spot-of .spot-of .ensures) (at-key-at .key-at .ensures) (at-edited .edited .ensures) (at-same-key .same-key .ensures))
+    (c .if2 .taken)
+
+put-key-requires : tie.Need-put-key-requires
+put-key-requires c κs =
+    let at-spot-of = c .before .before .before .before .before .before .before .before .before .before .before .before .before in
+    let at-if1 = at-spot-of .before in
+    let at-edit-refusal = at-if1 .before in
+    let w = allowed _ _ _ _ _ _ _ _ _ (at-edit-refusal .edit-refusal .ensures) (at-if1 .if1 .left) in rw (at-spot-of .spot-of .ensures) (record { frames = w .inside .frames .here; values = w .inside .values; slopes = w .inside .slopes })
+
+after-edit-requires : tie.Need-after-edit-requires
+after-edit-requires c κs =
+    let at-if1 = c .before .before .before .before .before .before .before .before .before .before .before .before .before .before .before .before .before .before .before .before .before in
+    let at-edit-refusal = at-if1 .before in
+    (allowed _ _ _ _ _ _ _ _ _ (at-edit-refusal .edit-refusal .ensures) (at-if1 .if1 .left)) .counts
+
+same-length-7 : tie.Need-same-length-7
+same-length-7 c = search needs
+
+same-length-8 : tie.Need-same-length-8
+same-length-8 c = search needs
+
+same-length-9 : tie.Need-same-length-9
+same-length-9 c = search needs
+
+returns-3 : tie.Need-returns-3
+returns-3 c =
     let at-put-key = c .before .before .before .before .before .before .before in
-    let at-edited = at-put-key .before .before .before .before in
+    let at-if2 = at-put-key .before .before .before .before in
+    let at-same-key = at-if2 .before in
+    let at-edited = at-same-key .before in
     let at-key-at = at-edited .before .before .before .before in
     let at-spot-of = at-key-at .before .before .before .before in
     let at-if1 = at-spot-of .before in
     let at-edit-refusal = at-if1 .before in
-    made-is _ _ _ _ _ _ _ _ _ (at-edit-refusal .edit-refusal .ensures) _ _ _ _ _ _ _ (at-if1 .if1 .left) (at-spot-of .spot-of .ensures) (at-key-at .key-at .ensures) (at-edited .edited .ensures) (c .after-edit .ensures) (at-put-key .put-key .ensures .0) (at-put-key .put-key .ensures .1 .0) (at-put-key .put-key .ensures .1 .1)
+    made-is _ _ _ _ _ _ _ _ _ (at-edit-refusal .edit-refusal .ensures) _ _ _ _ _ _ _ (at-if1 .if1 .left)
+    (unchanged-is _ _ _ _ _ _ _ _ _ _ (at-spot-of .spot-of .ensures) (at-key-at .key-at .ensures) (at-edited .edited .ensures) (at-same-key .same-key .ensures))
+    (at-if2 .if2 .left) (at-spot-of .spot-of .ensures) (at-key-at .key-at .ensures) (at-edited .edited .ensures) (c .after-edit .ensures) (at-put-key .put-key .ensures .0) (at-put-key .put-key .ensures .1 .0) (at-put-key .put-key .ensures .1 .1)
 
 pub edit-spec : {M : Type 1} → statement M
 edit-spec =
@@ -83,9 +108,14 @@ edit-spec =
     spot-of-requires
     key-at-requires
     edited-requires
-    put-key-requires
-    after-edit-requires
+    same-key-requires
     same-length-4
     same-length-5
     same-length-6
-    returns-2)
+    returns-2
+    put-key-requires
+    after-edit-requires
+    same-length-7
+    same-length-8
+    same-length-9
+    returns-3)

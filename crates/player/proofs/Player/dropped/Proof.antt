@@ -1,4 +1,4 @@
--- `dropped` answers `droppedPlayer`: one edit where a drag was accepted, and else none.
+-- `dropped` answers `droppedPlayer`: one edit, or none where the drop is unchanged.
 use Rattle.player.proofs.Drags.{dropped-nothing, dropped-one, closed-can}
 use borrow.Author.Needs.{needs}
 use Rattle.player.proofs.Player.dropped.Statement.{statement}
@@ -10,8 +10,14 @@ closed-requires c κs = search needs
 with-drag-requires : tie.Need-with-drag-requires
 with-drag-requires c κs = search needs
 
+unchanged-requires : tie.Need-unchanged-requires
+unchanged-requires c κs = search needs
+
 returns : tie.Need-returns
-returns c = let at-with-drag = c .before .before in dropped-nothing _ _ (at-with-drag .before .closed .ensures) (at-with-drag .with-drag .ensures) (c .if1 .taken)
+returns c =
+    let at-unchanged = c .before in
+    let at-with-drag = at-unchanged .before in
+    dropped-nothing _ _ (at-with-drag .before .closed .ensures) (at-with-drag .with-drag .ensures) (at-unchanged .unchanged .ensures) (c .if1 .taken)
 
 entry-requires : tie.Need-entry-requires
 entry-requires c κs = search needs
@@ -25,8 +31,9 @@ returns-2 : tie.Need-returns-2
 returns-2 c =
     let at-entry = c .before in
     let at-if1 = at-entry .before in
-    let at-with-drag = at-if1 .before .before in
-    dropped-one _ _ (at-with-drag .before .closed .ensures) (at-with-drag .with-drag .ensures) (at-if1 .if1 .left) (at-entry .entry .ensures) (c .after-edit .ensures)
+    let at-unchanged = at-if1 .before in
+    let at-with-drag = at-unchanged .before in
+    dropped-one _ _ (at-with-drag .before .closed .ensures) (at-with-drag .with-drag .ensures) (at-unchanged .unchanged .ensures) (at-if1 .if1 .left) (at-entry .entry .ensures) (c .after-edit .ensures)
 
 pub dropped-spec : {M : Type 1} → statement M
 dropped-spec =
@@ -34,6 +41,7 @@ dropped-spec =
     (tie.spec
     closed-requires
     with-drag-requires
+    unchanged-requires
     returns
     entry-requires
     after-edit-requires

@@ -19,6 +19,12 @@ const DRAG: Call = Call::Drag {
     value: 3.0,
 };
 
+/// Where the middle key of the first track is loaded.
+const BACK: Call = Call::Drag {
+    frame: 4.0,
+    value: -2.5,
+};
+
 const fn open(track: u16, key: u16) -> Call {
     Call::OpenDrag { track, key }
 }
@@ -51,6 +57,12 @@ pub fn states() -> Vec<(Held, Vec<Call>)> {
         ]
         .concat(),
         vec![Call::Play(1), open(2, 0), DRAG, Call::Pose(NONE, 0.0)],
+        [
+            &selected[..],
+            &[edit(1), edit(3), Call::Undo],
+            &[open(0, 1), DRAG, BACK],
+        ]
+        .concat(),
     ];
     let mut states = Vec::new();
     for (sheet, book) in ends::pairs() {
@@ -91,6 +103,11 @@ pub fn calls() -> Vec<Call> {
         key,
         request: Request::Key { frame, value: 2.0 },
     };
+    let slope = |track, slope| Call::Edit {
+        track,
+        key: 2,
+        request: Request::Slope(slope),
+    };
     vec![
         Call::Play(1),
         Call::Play(2),
@@ -107,16 +124,18 @@ pub fn calls() -> Vec<Call> {
         key_edit(1, 4.0),
         key_edit(3, 4.0),
         key_edit(0, f32::INFINITY),
+        // As the key is loaded.
         Call::Edit {
             track: 0,
             key: 2,
-            request: Request::Slope(-1.0),
+            request: Request::Key {
+                frame: 8.0,
+                value: 3.0,
+            },
         },
-        Call::Edit {
-            track: 1,
-            key: 2,
-            request: Request::Slope(-1.0),
-        },
+        slope(0, -1.0), // as it is loaded
+        slope(0, -2.0),
+        slope(1, -1.0),
         Call::Undo,
         Call::Redo,
         open(0, 1),
@@ -124,6 +143,7 @@ pub fn calls() -> Vec<Call> {
         open(2, 0), // of the second animation
         open(3, 0),
         DRAG,
+        BACK,
         Call::Drag {
             frame: 100.0,
             value: -0.5,

@@ -1,7 +1,6 @@
 //! The plain machine's drag (document 02, "Dragging a key").
 
 use super::{Edit, Machine};
-use crate::bits::bits_of;
 use crate::calls::readings::LentBook;
 use crate::calls::{Answer, Call, Request, Told, player, table};
 
@@ -12,7 +11,7 @@ pub struct Drag {
     animation: u16,
     track: u16,
     key: u16,
-    /// The key at opening, which a player carries.
+    /// The key at opening.
     start: [u32; 3],
     /// "the last accepted request"
     last: Option<Request>,
@@ -56,12 +55,11 @@ impl Machine {
     ) -> Answer {
         let refusal = self.opening_rows(track, key);
         self.unless(refusal, call, book, |m| {
-            let place = table::place(&m.sheet, track, key);
             m.drag = Some(Drag {
                 animation: m.view.selection,
                 track,
                 key,
-                start: m.keys.each_ref().map(|array| bits_of(array[place])),
+                start: m.numbers(track, key),
                 last: None,
             });
             Told::Done
@@ -79,19 +77,26 @@ impl Machine {
             let drag = m.drag.as_mut().expect("row 15");
             drag.last = Some(request);
             let edit = drag.edit(request);
-            m.make_last(edit);
-            Told::Done
+            let unchanged = m.make_last(edit);
+            m.make_again();
+            Told::Edited { unchanged }
         })
     }
 
     /// "Drop leaves one standing edit, the last accepted request"; "with no accepted
-    /// drag it leaves none and changes no count, reach or redo".
+    /// drag it leaves none and changes no count, reach or redo"; "A drag that drops on
+    /// its starting bits is unchanged too".
     pub(super) fn drop_drag(&mut self) -> Told {
         let drag = self.drag.take().expect("row 15");
-        if let Some(edit) = drag.last() {
+        let moved = self.numbers(drag.track, drag.key) != drag.start;
+        let edit = drag.last().filter(|_| moved);
+        if let Some(edit) = edit {
             self.append(edit);
         }
-        Told::Done
+        self.make_again();
+        Told::Edited {
+            unchanged: edit.is_none(),
+        }
     }
 
     /// "Abandon puts the key back, counts nothing and keeps reach and redo."

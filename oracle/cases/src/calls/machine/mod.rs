@@ -170,13 +170,17 @@ impl Machine {
             refusal => refusal,
         };
         self.unless(refusal, call, book, |m| {
-            m.append(edit);
-            m.make_last(edit);
-            Told::Done
+            let unchanged = m.make_last(edit);
+            if !unchanged {
+                m.append(edit);
+            }
+            m.make_again();
+            Told::Edited { unchanged }
         })
     }
 
-    /// "Accepted edit: append, reach + 1 up to 128, redo emptied, accepted + 1."
+    /// "Accepted edit: append, reach + 1 up to 128, redo emptied, accepted + 1." Of
+    /// document 02, none that is unchanged.
     fn append(&mut self, edit: Edit) {
         self.standing.push(edit);
         self.reach = (self.reach + 1).min(ROWS as u64);
@@ -201,16 +205,23 @@ impl Machine {
         self.reach += 1;
         self.redone += 1;
         self.make_last(edit);
+        self.make_again();
         Told::Done
     }
 
-    /// The edit that now comes last, made on the keys that were there. Now and then
-    /// all are made anew, with the same outcome: a drag's request leaves nothing of
-    /// the one before it.
-    fn make_last(&mut self, edit: Edit) {
+    /// Makes an edit on the keys that are there: whether its key has the same bits as
+    /// before.
+    fn make_last(&mut self, edit: Edit) -> bool {
+        let before = self.numbers(edit.track, edit.key);
         self.make(edit);
         self.reference.take(usize::from(edit.track), &mut self.keys);
         self.made += 1;
+        before == self.numbers(edit.track, edit.key)
+    }
+
+    /// Now and then all are made anew, with the same outcome: an unchanged edit isn't
+    /// missed, and a drag's request leaves nothing of the one before it.
+    fn make_again(&mut self) {
         if self.standing.len() < AGAIN || self.made.is_multiple_of(AGAIN) {
             let before = self.keys();
             self.make_all();
@@ -243,6 +254,12 @@ impl Machine {
     /// Whether no edit stands, and none is made by a drag.
     pub fn is_unedited(&self) -> bool {
         self.standing.is_empty() && self.drag.is_none_or(|drag| drag.last().is_none())
+    }
+
+    /// A key's frame, value and slope, as bits.
+    fn numbers(&self, track: u16, key: u16) -> [u32; 3] {
+        let place = table::place(&self.sheet, track, key);
+        self.keys.each_ref().map(|array| bits_of(array[place]))
     }
 
     /// The keys' bits.

@@ -1,7 +1,7 @@
 //! Random drags: a key is opened, dragged for a while with other calls in between,
 //! and dropped or abandoned. Row 15 declines what doesn't fit the state.
 
-use super::edits::{any_key, argument, edit, edit_frame, edit_value, track};
+use super::edits::{AGAIN, any_key, argument, edit, edit_key, track};
 use super::{not_finite, reading, select, tick};
 use crate::calls::Call;
 use crate::calls::held::Held;
@@ -57,15 +57,15 @@ fn open(random: &mut Random, held: &Held) -> Call {
     Call::OpenDrag { track, key }
 }
 
+/// Anywhere, now and then back to where the key was at opening.
 fn drag(random: &mut Random, held: &Held) -> Call {
     let drag = &held.player.drag;
     let target = held.sheet.targets.get(usize::from(drag.track));
     let target = target.filter(|target| drag.key < target.key_count);
+    let [start_frame, start_value, _] = drag.start.map(f32::from_bits);
     let (mut frame, mut value) = match target {
-        Some(target) => (
-            edit_frame(random, held, target, usize::from(drag.key)),
-            edit_value(random, target),
-        ),
+        Some(_) if random.once_in(AGAIN) => (start_frame, start_value),
+        Some(target) => edit_key(random, held, target, usize::from(drag.key)),
         None => (argument(random), argument(random)),
     };
     match random.below(32) {

@@ -1,11 +1,15 @@
-//! Random edits: most are accepted, and rows 6 to 10 decline the others.
+//! Random edits: most are accepted, some of them unchanged, and rows 6 to 10 decline
+//! the others.
 
-use super::{animation_of, not_finite, select};
+use super::{again, animation_of, not_finite, select};
 use crate::calls::held::Held;
 use crate::calls::{Call, Request};
 use crate::curves::{HERMITE, STEP};
 use crate::format::sheet::Target;
 use crate::random::Random;
+
+/// A key is asked for what it has once in so many times.
+pub const AGAIN: usize = 5;
 
 /// An edit of a key of the active animation, or now and then of none.
 pub fn edit(random: &mut Random, held: &Held) -> Call {
@@ -21,18 +25,16 @@ pub fn edit(random: &mut Random, held: &Held) -> Call {
         return wrong_edit(random, held);
     }
     let target = &held.sheet.targets[usize::from(track)];
-    let key = random.below(usize::from(target.key_count)) as u16;
+    let key = random.below(usize::from(target.key_count));
     let request = if slope {
-        Request::Slope(argument(random))
+        Request::Slope(edit_slope(random, held, target, key))
     } else {
-        Request::Key {
-            frame: edit_frame(random, held, target, usize::from(key)),
-            value: edit_value(random, target),
-        }
+        let (frame, value) = edit_key(random, held, target, key);
+        Request::Key { frame, value }
     };
     Call::Edit {
         track,
-        key,
+        key: key as u16,
         request,
     }
 }
@@ -94,8 +96,24 @@ pub fn argument(random: &mut Random) -> f32 {
     random.number()
 }
 
+/// A frame and a value, now and then those that the key has.
+pub fn edit_key(random: &mut Random, held: &Held, target: &Target, key: usize) -> (f32, f32) {
+    if random.once_in(AGAIN) {
+        return again::key(random, held, target, key);
+    }
+    let frame = edit_frame(random, held, target, key);
+    (frame, edit_value(random, target))
+}
+
+fn edit_slope(random: &mut Random, held: &Held, target: &Target, key: usize) -> f32 {
+    if random.once_in(AGAIN) {
+        return again::slope(random, held, target, key);
+    }
+    argument(random)
+}
+
 /// A frame near the key, one of its neighbours, or a bound of the clamp.
-pub fn edit_frame(random: &mut Random, held: &Held, target: &Target, key: usize) -> f32 {
+fn edit_frame(random: &mut Random, held: &Held, target: &Target, key: usize) -> f32 {
     if random.once_in(5) {
         return argument(random);
     }
@@ -107,7 +125,7 @@ pub fn edit_frame(random: &mut Random, held: &Held, target: &Target, key: usize)
     if frame.is_finite() { frame } else { 0.0 }
 }
 
-pub fn edit_value(random: &mut Random, target: &Target) -> f32 {
+fn edit_value(random: &mut Random, target: &Target) -> f32 {
     if target.curve != STEP || random.once_in(3) {
         return argument(random);
     }

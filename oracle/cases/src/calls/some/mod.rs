@@ -1,5 +1,6 @@
 //! Random calls: most are accepted, and each row of the table declines some.
 
+mod again;
 mod drags;
 mod edits;
 mod reads;

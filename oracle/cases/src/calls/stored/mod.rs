@@ -7,7 +7,7 @@
 mod tests;
 
 use super::held::Held;
-use super::player::ROWS;
+use super::player::{Drag, ROWS};
 use super::some::{self, Mode};
 use super::walk::{Step, Walk};
 use super::{Call, text};
@@ -38,6 +38,8 @@ pub struct List {
     pub answers: Vec<u8>,
     walk: Walk,
     moves: usize,
+    /// As it is before the next call.
+    drag: Drag,
 }
 
 pub fn lists(seed: u64) -> impl Iterator<Item = List> {
@@ -54,6 +56,7 @@ impl List {
             answers: Vec::new(),
             walk: walk.without_spoils(),
             moves: 0,
+            drag: Drag::default(),
         }
     }
 
@@ -69,8 +72,10 @@ impl List {
             panic!("{step:?} is no call");
         };
         if let Some(line) = text::line(call) {
-            self.write(&line, text::answer(call, answer, &self.walk.held));
+            let told = text::answer(call, answer, &self.walk.held, &self.drag);
+            self.write(&line, told);
         }
+        self.drag = self.walk.held.player.drag;
         let refusal = answer.refusal;
         if call.edits() || call.shows() {
             self.ask("player", text::player);

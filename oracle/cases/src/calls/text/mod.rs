@@ -8,15 +8,17 @@ mod number;
 use super::held::Held;
 use super::player::Drag;
 use super::readings::{material_reading, pane_reading};
-use super::{Answer, Call, One, Tick, Told};
+use super::{Answer, Call, One, Tick, Told, table};
+use crate::bits::bits_of;
 use crate::format::book::Book;
 use crate::readings::whole::{MATERIAL_CHANNELS, PANE_CHANNELS};
 pub use call::line;
 use call::selection;
 use number::number;
 
-/// What is written for a call's answer, its last line end included.
-pub fn answer(call: &Call, answer: &Answer, held: &Held) -> Vec<u8> {
+/// What is written for a call's answer, its last line end included. `before` is the
+/// drag before the call, which a drop has closed.
+pub fn answer(call: &Call, answer: &Answer, held: &Held, before: &Drag) -> Vec<u8> {
     let mut text = Text::default();
     match call {
         Call::ReadAll { .. } => text.say("channels:\n"),
@@ -25,10 +27,18 @@ pub fn answer(call: &Call, answer: &Answer, held: &Held) -> Vec<u8> {
     }
     match (call, answer.refusal) {
         (Call::NextName(animation), _) => text.next(*animation, answer, held),
-        (_, 0) => text.told(&answer.told, held),
+        (_, 0) => text.told(&answer.told, edited_key(call, before), held),
         (_, refusal) => text.declined(refusal),
     }
     text.0
+}
+
+/// The track and key of an edit, a drag or a drop.
+fn edited_key(call: &Call, before: &Drag) -> (u16, u16) {
+    match *call {
+        Call::Edit { track, key, .. } => (track, key),
+        _ => (before.track, before.key),
+    }
 }
 
 /// What `player` answers.
@@ -65,16 +75,21 @@ fn drag(drag: &Drag) -> String {
 /// What `keys` answers.
 pub fn keys(held: &Held) -> Vec<u8> {
     let mut text = Text::default();
-    let keys = held.key_bits();
     text.say("keys:\n");
     for (track, target) in held.sheet.targets.iter().enumerate() {
         for (key, at) in target.keys().enumerate() {
-            let [frame, value, slope] = keys.each_ref().map(|array| number(array[at]));
-            let numbers = format!("frame {frame} value {value} slope {slope}");
+            let numbers = key_numbers(held, at);
             text.say(&format!("track {track} key {key} {numbers}\n"));
         }
     }
     text.0
+}
+
+/// A key by its place among all keys.
+fn key_numbers(held: &Held, at: usize) -> String {
+    let numbers = held.keys.each_ref().map(|array| number(bits_of(array[at])));
+    let [frame, value, slope] = numbers;
+    format!("frame {frame} value {value} slope {slope}")
 }
 
 /// Names need not be text.
@@ -122,9 +137,10 @@ impl Text {
         }
     }
 
-    fn told(&mut self, told: &Told, held: &Held) {
+    fn told(&mut self, told: &Told, key: (u16, u16), held: &Held) {
         match told {
             Told::Done => self.say("ok\n"),
+            Told::Edited { unchanged } => self.edited(*unchanged, key, held),
             Told::Tick(tick) => self.tick(tick),
             Told::One(one) => {
                 self.one(*one, held);
@@ -157,6 +173,13 @@ impl Text {
             Told::Cascade { visible, alpha, .. } => self.cascade(visible, alpha, held),
             Told::Saved(bytes) => self.saved(bytes, held),
         }
+    }
+
+    /// The key as it is stored now.
+    fn edited(&mut self, unchanged: bool, (track, key): (u16, u16), held: &Held) {
+        let what = if unchanged { "unchanged" } else { "ok" };
+        let numbers = key_numbers(held, table::place(&held.sheet, track, key));
+        self.say(&format!("{what} {numbers}\n"));
     }
 
     fn tick(&mut self, tick: &Tick) {
