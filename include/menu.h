@@ -168,10 +168,12 @@ typedef struct {
     menu_player player;
 } menu_played;
 
-/* What an edit, a drag and a drop answer. */
+/* What an edit, a drag and a drop answer. Unchanged: it was accepted, and the key's frame, value and slope have the same
+ * bits as before; of a drop, the same as at the opening, or no drag was accepted. -0 and +0 differ. An unchanged edit or
+ * drop leaves no edit and keeps reach and redo. After an unchanged drag the drop may still be an edit. */
 typedef struct {
     uint8_t refusal;
-    bool unchanged; /* accepted, with nothing to make: no edit is left, and reach and redo are kept */
+    bool unchanged;
     menu_player player;
 } menu_edited;
 
@@ -253,8 +255,7 @@ menu_ticked menu_tick(menu_player player, const uint8_t *sheet, size_t sheet_len
 
 /* ---- editing: the keys are those that menu_load filled
  *
- * An edit is unchanged where it would leave the key's frame, value and slope bit for bit as they are; -0 and +0 differ.
- * Then player and keys are as they were. */
+ * After an unchanged edit player and keys are as they were. */
 
 /* Moves a key of the active animation to a frame and a value, held between its neighbours.
  * Refusals 1, 3 to 6, 15, 7 to 9. */
@@ -291,13 +292,13 @@ menu_played menu_open_drag(menu_player player, const uint8_t *sheet, size_t shee
                            size_t frames_len, const float *values, size_t values_len, const float *slopes,
                            size_t slopes_len, uint16_t track, uint16_t key);
 
-/* Moves the opened key as menu_key_edit does, whatever animation is active by now, and counts nothing. Unchanged where the
- * key stays bit for bit where it is now, which is accepted all the same: `moved` is set. Refusals 1, 3 to 5, 15, 8, 9. */
+/* Moves the opened key as menu_key_edit does, whatever animation is active by now, and counts nothing. An unchanged drag
+ * sets `moved` too. Refusals 1, 3 to 5, 15, 8, 9. */
 menu_edited menu_drag(menu_player player, const uint8_t *sheet, size_t sheet_len, float *frames, size_t frames_len,
                       float *values, size_t values_len, float *slopes, size_t slopes_len, float frame, float value);
 
-/* Closes the drag and leaves the key where it is, as one edit from the key at the opening to the key now. Unchanged where
- * no drag was accepted or the two have the same bits. Refusals 1, 3 to 5, 15. */
+/* Closes the drag and leaves the key where it is: unless unchanged, that is one edit from the key at the opening to the
+ * key now. Refusals 1, 3 to 5, 15. */
 menu_edited menu_drop_drag(menu_player player, const uint8_t *sheet, size_t sheet_len, const float *frames,
                            size_t frames_len, const float *values, size_t values_len, const float *slopes,
                            size_t slopes_len);

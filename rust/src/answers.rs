@@ -48,8 +48,8 @@ pub enum Tick {
 pub enum Edited {
     /// The edit or drag gave the key other bits; the drop left an edit.
     Made,
-    /// The edit or drag would give the key the bits that it has; the drop left no edit. Nothing is counted, and what can
-    /// be undone or redone stays.
+    /// The edit or drag left the key the bits that it had; the drop left no edit. The call counts nothing, and what can be
+    /// undone or redone stays. After an unchanged drag the drop may still leave an edit.
     Unchanged,
 }
 

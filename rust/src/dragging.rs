@@ -6,8 +6,8 @@ use crate::player::Player;
 use crate::raw;
 use crate::refusal::Refusal;
 
-/// A drag that is open: one key that is moved any number of times, until a drop leaves it as one edit or an abandon puts
-/// it back. Edits, undo and redo are declined meanwhile.
+/// A drag that is open: one key that is moved any number of times, until a drop leaves it there, as one edit at most, or
+/// an abandon puts it back. Edits, undo and redo are declined meanwhile.
 ///
 /// ```
 /// use dovebolt::{Drag, Key, Player, example};

@@ -22,8 +22,9 @@
 //! # Ok::<(), dovebolt::Refusal>(())
 //! ```
 //!
-//! A key that follows the mouse is dragged: it is moved any number of times, and undo sees one edit. Where an edit or a
-//! drag leaves the key as it was, undo sees none, and what was undone can still be redone: [`Edited::Unchanged`].
+//! A key that follows the mouse is dragged: it is moved any number of times, and undo sees one edit at most. Where an
+//! edit or a drag leaves the key as it was, undo sees none, and what was undone can still be redone:
+//! [`Edited::Unchanged`].
 //!
 //! ```
 //! use dovebolt::{Player, example};

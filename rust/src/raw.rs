@@ -81,7 +81,9 @@ pub struct Played {
     pub player: Player,
 }
 
-/// What an edit, a drag and a drop answer. `unchanged` says that there was nothing to make.
+/// What an edit, a drag and a drop answer. `unchanged` says that it was accepted and the key has the same bits as before;
+/// of a drop, the same as at the opening, or that no drag was accepted. An unchanged edit or drop leaves no edit and keeps
+/// reach and redo.
 #[repr(C)]
 #[derive(Clone, Copy, Debug, PartialEq)]
 pub struct Edited {

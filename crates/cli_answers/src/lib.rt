@@ -69,12 +69,12 @@ fn change(
 }
 
 // A drag and a drop are of the key that is held.
-fn is_held(verb: u8) -> bool {
+fn of_held_key(verb: u8) -> bool {
     (verb == DRAG) | (verb == DROP)
 }
 
 fn edits(verb: u8) -> bool {
-    (verb == KEY) | (verb == SLOPE) | is_held(verb)
+    (verb == KEY) | (verb == SLOPE) | of_held_key(verb)
 }
 
 fn changes(verb: u8) -> bool {
@@ -133,7 +133,7 @@ fn say_edit(p: Player, c: Call, r: Edited, s: &[u8], frames: &[f32], values: &[f
         say(b"ok");
     }
     let d = p.drag;
-    if is_held(c.verb) {
+    if of_held_key(c.verb) {
         tracks::say_key(s, d.track, d.key, frames, values, slopes);
         return;
     }

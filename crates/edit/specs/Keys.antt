@@ -1,15 +1,15 @@
 -- The keys of a sheet as three lists of one length (document 01, "Sheet and book": three lent f32 arrays), one key of them, and one key put in
--- another's place. Assumes nothing.
+-- another's place; and when two keys are the same, bit for bit. Assumes nothing.
 use Prim.Native.Nat.{ℕ, zero, suc, _<_}
 use mathlib.Core.Path.{_≡_, refl}
-use mathlib.Core.Bool.{Bool, false, _&&_, _||_}
+use mathlib.Core.Bool.{Bool, false, _&&_}
 use mathlib.Core.List.{List, [], _∷_}
 use denote.Ref.{RefT, now}
 use lib.Dec.{T}
 use lib.ListN.{set, length, length-set}
 use lib.Seq.{getD-set-same, getD-set-other, set-set, set-getD}
 use lib.Ieee.{Float, nan, binary32, fits, toBits, ofBits, isNan}
-use Rattle.float.specs.Numbers.{#, zero', sameBits}
+use Rattle.float.specs.Numbers.{zero', minusZero, sameBits}
 use Rattle.keys.specs.Keys.{keysOk}
 use Rattle.curve.specs.declared.Key.{Key}
 use Rattle.curve.specs.Keys as curve
@@ -37,11 +37,10 @@ sameKey a b = sameBits (a .frame) (b .frame) && sameBits (a .value) (b .value) &
 
 -- "−0 and +0 differ" (document 02, 4/13): in the frame, in the value and in the slope
 pub zeros-differ : let at : Float → Float → Float → Key = λ f v m. record { frame = f; value = v; slope = m } in
-    let nought = # 0x8000_0000 in
     let zeros = at zero' zero' zero' in
-    (sameKey (at nought zero' zero') zeros || sameKey (at zero' nought zero') zeros || sameKey (at zero' zero' nought) zeros) ≡ false
+    (sameKey (at minusZero zero' zero') zeros ≡ false) × (sameKey (at zero' minusZero zero') zeros ≡ false) × (sameKey (at zero' zero' minusZero) zeros ≡ false)
 unfolding sameKey sameBits isNan toBits ofBits
-zeros-differ = refl
+zeros-differ = (refl, refl, refl)
 
 -- the key at i
 unfoldable pub keyAt : Keys → ℕ → Key

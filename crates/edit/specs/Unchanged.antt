@@ -1,4 +1,5 @@
--- Unchanged edits and their keys (document 02, 4/13): over f32, an edit is unchanged exactly where making it leaves all keys as they are. Assumes nothing.
+-- Unchanged edits and their keys (document 02, 4/13): over f32, an edit of a key that there is, its numbers no NaNs, is unchanged exactly where making it
+-- leaves all keys as they are. Assumes nothing.
 use Prim.Native.Nat.{ℕ}
 use mathlib.Core.Path.{_≡_, sym, ap, _∙_}
 use mathlib.Core.Bool.{true, _&&_}

@@ -133,6 +133,7 @@ module _ (s : List ℕ) (n : ℕ) (m : Plain) (j : Journal) (ok : sheetOk s ≡ 
     abbrev r : Request
     r = request.Key x v
 
+    -- the key now and the key of the opening, where the last request made another
     other-bits : unchanged s ks track key r ≡ false → sameKey (edited s ks track key r) (keyAt ks (place s track key)) ≡ false
     unfolding unchanged
     other-bits u = u

@@ -1,7 +1,8 @@
 -- Unchanged edits (document 02, 4/13) and what comes after them: an unchanged edit may as well not have been asked for, whatever the player and the keys;
--- and after any list of calls each undo and each redo that is not declined changes the keys, since no edit that stands was unchanged. Assumes nothing.
-use mathlib.Core.Path.{_≡_, refl, sym, ap, subst, _∙_}
-use mathlib.Core.Bool.{true, false, _&&_, false≢true}
+-- and after any list of fewer than 2^40 calls from a freshly loaded player, each undo and each redo that is not declined changes the keys, since no edit in
+-- the journal was unchanged. Assumes nothing.
+use mathlib.Core.Path.{_≡_, sym, ap, subst, _∙_}
+use mathlib.Core.Bool.{true, false≢true}
 use mathlib.Core.List.{List, [], _∷_}
 use Prim.Native.Nat.{ℕ, zero, suc, _≤_, _^_}
 use native.Mathlib.Omega.{arith}
@@ -22,10 +23,10 @@ use Rattle.edit.specs.Unchanged.{left-unchanged}
 use Rattle.menu.specs.Rows.{editTable, closeTable}
 use Rattle.menu.specs.Calls.{EditedKeys, editOf, heldAt, dropOf, undoOf, redoOf, loadedOf}
 use Rattle.machine.specs.Runs.{last, Each}
-use Rattle.machine.specs.Calls.{Call, edit, undo, redo, HeldCall, Answer, number, edited, ticked, told, written, State, stepP}
+use Rattle.machine.specs.Calls.{Call, edit, undo, redo, HeldCall, Answer, number, editAnswer, ticked, told, written, State, stepP}
 use Rattle.machine.specs.Plain.{Dragging, closed, opened, dragged, Plain, replay, keysOf, stepM, freshM}
 use Rattle.machine.proofs.Invariant.{JournalRow, Good}
-use Rattle.machine.proofs.Kept.{suc-not, stateOf}
+use Rattle.machine.proofs.Kept.{suc-not}
 use Rattle.machine.proofs.Steps.{step-kept}
 use Rattle.machine.proofs.Loaded.{loaded-sheet, loaded-sane}
 use Rattle.machine.proofs.Theorem.{Related, related}
@@ -50,7 +51,7 @@ module _ (s : List ℕ) (p : Player) (ks : Keys) where
       let b = both (eqb n 0) (dropUnchanged (p .drag) (keyAt ks (heldAt s p))) e in
       rw (eqb-true n 0 (b .0), b .1)
 
--- so all that is called after an unchanged edit finds what it would have found without it: what was undone before it is made again after it
+-- so any calls after an unchanged edit leave player and keys as they would without it
 pub an-unchanged-edit-may-be-left-out : (s : List ℕ) (t : State) (track key : ℕ) (r : Request) → editOf s (t .player) (t .keys) track key r .unchanged ≡ true
     → (cs : List Call) → last (stepP s) (edit track key r ∷ cs) t ≡ last (stepP s) cs t
 an-unchanged-edit-may-be-left-out s t track key r e cs =
@@ -58,10 +59,10 @@ an-unchanged-edit-may-be-left-out s t track key r e cs =
 
 -- ---- an undo and a redo change the keys
 
--- the number that a call answers
+-- the number that a call answers, readings apart, of which nothing below asks
 abbrev numberOf : Answer → ℕ
 numberOf (number n) = n
-numberOf (edited n same) = n
+numberOf (editAnswer n same) = n
 numberOf (ticked n t k) = n
 numberOf (told r) = 0
 numberOf (written r) = r .refusal
@@ -106,7 +107,7 @@ module _ (s : List ℕ) (arrays : Keys) (e : loadedOf s arrays .refusal ≡ 0) (
   unfolding loadedOf
   r = related s (loaded-sheet s arrays e) (loadedOf s arrays .keys) (loaded-sane s arrays e) cs held (omega arith) .0
 
-  -- a call that is the machine's changes the keys where the machine's does
+  -- where the machine's call changes its keys, the player's changes them too
   as-the-machine : (c : Call) → HeldCall c → (numberOf (stepM s c m .1) ≡ 0 → keysOf s (stepM s c m .0) ≡ keysOf s m → ⊥)
       → numberOf (stepP s c t .1) ≡ 0 → stepP s c t .0 .keys ≡ t .keys → ⊥
   as-the-machine c h f =

@@ -54,7 +54,7 @@ HeldCall (save o) = Unit {0}
 -- next name that it ended with, as the Rust's tick returns it; for a reading what it tells; for saving its number, and the buffer as it is left
 pub data Answer : Type 0 where
   number : ℕ → Answer
-  edited : ℕ → Bool → Answer
+  editAnswer : ℕ → Bool → Answer
   ticked : ℕ → Tick → List ℕ → Answer
   told : Told → Answer
   written : Written → Answer
@@ -82,10 +82,10 @@ abbrev pub afterChange : Changed → State × Answer
 afterChange r = (record { player = r .player; keys = r .keys }, number (r .refusal))
 
 abbrev pub afterEdit : EditedKeys → State × Answer
-afterEdit r = (record { player = r .player; keys = r .keys }, edited (r .refusal) (r .unchanged))
+afterEdit r = (record { player = r .player; keys = r .keys }, editAnswer (r .refusal) (r .unchanged))
 
 abbrev pub afterDrop : Keys → Edited → State × Answer
-afterDrop ks r = (record { player = r .player; keys = ks }, edited (r .refusal) (r .unchanged))
+afterDrop ks r = (record { player = r .player; keys = ks }, editAnswer (r .refusal) (r .unchanged))
 
 -- the step of the player
 abbrev pub stepP : List ℕ → Call → State → State × Answer

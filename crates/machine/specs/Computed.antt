@@ -215,7 +215,7 @@ saveInto s o =
 -- calls on a sheet that is posed at its start: what each edit, drag and drop of them answers, and the state that they leave
 unfoldable pub edits : List Answer → List ℕ
 edits [] = []
-edits (calls.edited n same ∷ rest) = n ∷ cond same 1 0 ∷ edits rest
+edits (calls.editAnswer n same ∷ rest) = n ∷ cond same 1 0 ∷ edits rest
 edits (calls.number n ∷ rest) = edits rest
 edits (calls.ticked n t k ∷ rest) = edits rest
 edits (calls.told r ∷ rest) = edits rest

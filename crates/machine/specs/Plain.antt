@@ -1,6 +1,6 @@
--- The plain machine (document 01, "Playing and editing"; saving, dragging and unchanged edits are document 02's, 1/13, 2/13 and 4/13): fed the calls alone, it holds the
--- loaded keys, the list of standing edits, the redo list, a reach of 0..128, three counts, a fresh player's view and the open drag. It declines by the
--- table on its own state. Definitions only.
+-- The plain machine (document 01, "Playing and editing"; saving, dragging and unchanged edits are document 02's, 1/13, 2/13 and 4/13): fed the calls alone,
+-- it holds the loaded keys, the list of standing edits, the redo list, a reach of 0..128, three counts, a fresh player's view and the open drag. It declines
+-- by the table on its own state. Definitions only.
 use Prim.Native.Nat.{ℕ, zero, suc, _+_, _-_, min}
 use mathlib.Core.Bool.{Bool, true, false}
 use mathlib.Core.List.{List, [], _∷_}
@@ -19,7 +19,7 @@ use Rattle.edit.specs.Edit.{Edit, spotOf, unchanged, madeEdit, requestRows, tra
 use Rattle.player.specs.Undo.{someRows}
 use Rattle.menu.specs.Rows.{playRows, poseRows, tickRows, saveRows}
 use Rattle.menu.specs.Calls.{writtenBy, savedWith}
-use Rattle.machine.specs.Calls.{Call, play, pose, tick, edit, undo, redo, openDrag, drag, dropDrag, abandonDrag, ask, save, Answer, number, edited, ticked, told, written, onNext}
+use Rattle.machine.specs.Calls.{Call, play, pose, tick, edit, undo, redo, openDrag, drag, dropDrag, abandonDrag, ask, save, Answer, number, editAnswer, ticked, told, written, onNext}
 use Rattle.machine.specs.Asks.{askRefusal, tellIn}
 
 -- A drag: none is open; a key was opened, in an animation, and no drag was accepted yet; or with the frame and value of the last accepted request.
@@ -96,7 +96,7 @@ ticksOn zero s dt fps m = (
 )
 ticksOn (suc n) s dt fps m = (m, ticked (suc n) Idle [])
 
--- Accepted edit: append, reach + 1 up to 128, redo emptied, accepted + 1. No drag is open after it.
+-- Accepted edit, unchanged ones apart: append, reach + 1 up to 128, redo emptied, accepted + 1. No drag is open after it.
 abbrev pub appended : Plain → Edit → Plain
 appended m e =
     record {
@@ -113,9 +113,9 @@ appended m e =
 
 -- An edit, by its refusal and by whether it is unchanged: then it "isn't appended, isn't counted, and leaves reach and redo as they were".
 abbrev pub edits : ℕ → Bool → Plain → Edit → Plain × Answer
-edits zero true m e = (m, edited 0 true)
-edits zero false m e = (appended m e, edited 0 false)
-edits (suc n) same m e = (m, edited (suc n) false)
+edits zero true m e = (m, editAnswer 0 true)
+edits zero false m e = (appended m e, editAnswer 0 false)
+edits (suc n) same m e = (m, editAnswer (suc n) false)
 
 -- Undo: the last standing edit moves to redo, reach − 1, undone + 1. (Nothing standing and no refusal doesn't come about.)
 abbrev pub undoes : ℕ → Plain → List Edit → Plain × Answer
@@ -180,11 +180,11 @@ holds (suc n) m d = (m, number (suc n))
 
 -- A drag: a key edit of the open key, by its refusal; an unchanged one is the last accepted request too. Without an open key: 15, here and below.
 abbrev pub dragsTo : ℕ → Bool → Plain → Dragging → Plain × Answer
-dragsTo zero same m d = (holding m d, edited 0 same)
-dragsTo (suc n) same m d = (m, edited (suc n) false)
+dragsTo zero same m d = (holding m d, editAnswer 0 same)
+dragsTo (suc n) same m d = (m, editAnswer (suc n) false)
 
 abbrev pub drags : List ℕ → Plain → Float → Float → Dragging → Plain × Answer
-drags s m x v closed = (m, edited 15 false)
+drags s m x v closed = (m, editAnswer 15 false)
 drags s m x v (opened a track key) =
     dragsTo (declines (requestRows (keysOf s m .frames) (spotOf s track key) (request.Key x v))) (unchanged s (keysOf s m) track key (request.Key x v)) m (dragged a track key x v)
 drags s m x v (dragged a track key y w) =
@@ -192,8 +192,8 @@ drags s m x v (dragged a track key y w) =
 
 -- Drop: the last accepted request is an edit of the standing keys, which are the keys of the opening. With no accepted drag it is unchanged.
 abbrev pub drops : List ℕ → Plain → Dragging → Plain × Answer
-drops s m closed = (m, edited 15 false)
-drops s m (opened a track key) = (holding m closed, edited 0 true)
+drops s m closed = (m, editAnswer 15 false)
+drops s m (opened a track key) = (holding m closed, editAnswer 0 true)
 drops s m (dragged a track key x v) = edits 0 (unchanged s (standingKeys s m) track key (request.Key x v)) (holding m closed) (draggedTo a track key x v)
 
 -- Abandon: no edit, and no count, reach or redo changes.

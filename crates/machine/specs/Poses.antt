@@ -7,7 +7,7 @@ use mathlib.Core.List.{List, [], _∷_, _++_, map}
 use lib.Dec.{eqb}
 use lib.ListN.{replicate}
 use lib.Ieee.{Float, nan}
-use Rattle.float.specs.Numbers.{#, zero'}
+use Rattle.float.specs.Numbers.{zero', minusZero}
 use Rattle.curve.specs.Curve.{kindConstant, kindStep, kindHermite}
 use Rattle.edit.specs.declared.request.Request.the-variants as request
 use Rattle.edit.specs.Edit.{none}
@@ -60,9 +60,6 @@ level l = 0 ∷ 4 ∷ l ∷ []
 -- two keys at these frames with these values and the slopes of `slopes`, after such counts
 abbrev pub keyed : List Float → List Float → List ℕ
 keyed fs vs = map bits fs ++ map bits vs ++ map bits (whole 3 ∷ minus 2 ∷ [])
-
-abbrev pub minusZero : Float
-minusZero = # 0x8000_0000
 
 -- an edit that is made, and one that is unchanged
 abbrev pub made : List ℕ

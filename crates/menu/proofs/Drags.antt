@@ -23,7 +23,7 @@ use Rattle.menu_checks.specs.Rows.{stateRows}
 use Rattle.menu_checks.specs.Checks.{state-ready}
 use Rattle.menu.specs.Rows.{openTable, dragRows, dragTable, closeTable}
 use Rattle.menu.specs.declared.editing.Edited.{Edited}
-use Rattle.menu.specs.Calls.{gave, gaveEdit, heldAt, dragOf, dropOf, abandonOf}
+use Rattle.menu.specs.Calls.{gave, gaveEdit, dragOf, dropOf, abandonOf}
 use Rattle.menu.proofs.Edits.{Allowed, on-key}
 
 -- ---- opening
@@ -55,11 +55,8 @@ module _ (s : List ℕ) (p : Player) (fs vs ss : List Float) (x v : Float) {n : 
   unfolding dragTable dragRows
   drag-allowed z = held-allowed s p fs vs ss _ e z
 
-  pub drag-not : (n ≡ 0 → ⊥) → gaveEdit (record { refusal = n; unchanged = false; player = p }) (keys fs vs ss) ≡ dragOf s p (keys fs vs ss) x v
-  unfolding dragOf
-  drag-not d = rw (← e, ne-eqb n 0 d)
-
-  pub drag-made : (y : Spot) (k : Key) (q : Player) (fs′ vs′ ss′ : List Float) {same : Bool} → n ≡ 0 → same ≡ unchanged s (keys fs vs ss) (p .drag .track) (p .drag .key) (request.Key x v) → y ≡ spotOf s (p .drag .track) (p .drag .key)
+  pub drag-made : (y : Spot) (k : Key) (q : Player) (fs′ vs′ ss′ : List Float) {same : Bool}
+      → n ≡ 0 → same ≡ unchanged s (keys fs vs ss) (p .drag .track) (p .drag .key) (request.Key x v) → y ≡ spotOf s (p .drag .track) (p .drag .key)
       → k ≡ editedAt (keys fs vs ss) y (request.Key x v) → q ≡ withDrag p (movedOn (p .drag))
       → fs′ ≡ set fs (y .at) (k .frame) → vs′ ≡ set vs (y .at) (k .value) → ss′ ≡ set ss (y .at) (k .slope)
       → gaveEdit (record { refusal = 0; unchanged = same; player = q }) (keys fs′ vs′ ss′) ≡ dragOf s p (keys fs vs ss) x v

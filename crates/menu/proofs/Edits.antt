@@ -5,7 +5,6 @@ use mathlib.Core.Path.{_≡_, sym, _∙_}
 use mathlib.Core.Bool.{Bool, true, false}
 use mathlib.Core.List.{List, _++_}
 use native.Mathlib.Omega.{arith}
-use borrow.Author.Tests.{ne-eqb}
 use lib.ListN.{set}
 use lib.Ieee.{Float}
 use Rattle.laws.specs.Rows.{Row, declines, first-held, stops, goes}
@@ -48,8 +47,8 @@ on-key {s} {fs = fs} {vs} {ss} w track key h =
     }
 
 -- whether a request leaves the key as it is, from what the calls give
-pub unchanged-is : (s : List ℕ) (fs vs ss : List Float) (track key : ℕ) (r : Request) (x : Spot) (b a : Key) {same : Bool} → x ≡ spotOf s track key → b ≡ curve.keyAt fs vs ss (x .at)
-    → a ≡ editedAt (keys fs vs ss) x r → same ≡ sameKey a b → same ≡ unchanged s (keys fs vs ss) track key r
+pub unchanged-is : (s : List ℕ) (fs vs ss : List Float) (track key : ℕ) (r : Request) (x : Spot) (b a : Key) {same : Bool}
+    → x ≡ spotOf s track key → b ≡ curve.keyAt fs vs ss (x .at) → a ≡ editedAt (keys fs vs ss) x r → same ≡ sameKey a b → same ≡ unchanged s (keys fs vs ss) track key r
 unfolding unchanged edited keyAt spotOf
 unchanged-is s fs vs ss track key r x b a l h k u = u ∙ rw (k, h, l)
 
@@ -60,17 +59,14 @@ module _ (s : List ℕ) (p : Player) (fs vs ss : List Float) (track key : ℕ) (
       let h = accepted-key s (p .selection) (p .drag .«open») track key (keys fs vs ss) r (first-held (stateRows s p (keys fs vs ss)) _ tt (sym e ∙ z) .1) .0 in
       on-key (state-ready s p fs vs ss _ e z) track key h
 
-  -- declined, and unchanged: player and keys are as they were
-  pub edit-not : (n ≡ 0 → ⊥) → gaveEdit (record { refusal = n; unchanged = false; player = p }) (keys fs vs ss) ≡ editOf s p (keys fs vs ss) track key r
-  unfolding editOf
-  edit-not d = rw (← e, ne-eqb n 0 d)
-
+  -- unchanged: player and keys are as they were
   pub same-is : {same : Bool} → n ≡ 0 → same ≡ unchanged s (keys fs vs ss) track key r → same ≡ true
       → gaveEdit (record { refusal = 0; unchanged = true; player = p }) (keys fs vs ss) ≡ editOf s p (keys fs vs ss) track key r
   unfolding editOf
   same-is z u t = rw (← e, z, ← u, t)
 
-  pub made-is : (x : Spot) (b a : Key) (q : Player) (fs′ vs′ ss′ : List Float) {same : Bool} → n ≡ 0 → same ≡ unchanged s (keys fs vs ss) track key r → same ≡ false → x ≡ spotOf s track key → b ≡ curve.keyAt fs vs ss (x .at)
+  pub made-is : (x : Spot) (b a : Key) (q : Player) (fs′ vs′ ss′ : List Float) {same : Bool}
+      → n ≡ 0 → same ≡ unchanged s (keys fs vs ss) track key r → same ≡ false → x ≡ spotOf s track key → b ≡ curve.keyAt fs vs ss (x .at)
       → a ≡ editedAt (keys fs vs ss) x r → q ≡ editedPlayer p (record { track = track; key = key; before = b; after = a })
       → fs′ ≡ set fs (x .at) (a .frame) → vs′ ≡ set vs (x .at) (a .value) → ss′ ≡ set ss (x .at) (a .slope)
       → gaveEdit (record { refusal = 0; unchanged = false; player = q }) (keys fs′ vs′ ss′) ≡ editOf s p (keys fs vs ss) track key r

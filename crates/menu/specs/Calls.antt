@@ -1,7 +1,7 @@
--- What each call gives (document 01, "Playing and editing" and "What a call declines"; document 02, 1/13, 2/13 and 4/13): the number of the first row of its list that doesn't hold
--- (specs/Rows), and its step where each does. Definitions only.
+-- What each call gives (document 01, "Playing and editing" and "What a call declines"; document 02, 1/13, 2/13 and 4/13): the number of the first row of
+-- its list that doesn't hold (specs/Rows), and its step where each does. Definitions only.
 use Prim.Native.Nat.{ℕ}
-use mathlib.Core.Bool.{Bool, not, _&&_, cond}
+use mathlib.Core.Bool.{Bool, _&&_, cond}
 use mathlib.Core.List.{List, []}
 use lib.Dec.{eqb}
 use lib.ListN.{length}
@@ -50,7 +50,7 @@ tickOf s p dt fps =
       player = cond (eqb n 0) (withView p (tickView s dt fps (viewOf p))) p;
     }
 
--- what a call that may change keys gives, and leaves in the three arrays
+-- what loading, an undo, a redo and an abandonment give, and leave in the three arrays
 pub record Changed : Type 0 where
   pub refusal : ℕ
   pub player : Player
@@ -73,6 +73,9 @@ pub record EditedKeys : Type 0 where
 abbrev pub gaveEdit : Edited → Keys → EditedKeys
 gaveEdit r ks = record { refusal = r .refusal; unchanged = r .unchanged; player = r .player; keys = ks }
 
+abbrev pub editedBy : ℕ → Bool → Player → Keys → Player → Keys → EditedKeys
+editedBy n same p ks q ls = record { refusal = n; unchanged = eqb n 0 && same; player = cond (eqb n 0) q p; keys = cond (eqb n 0) ls ks }
+
 -- the journal's entry of an edit that is made on ks
 unfoldable pub entryFor : List ℕ → Keys → ℕ → ℕ → Request → Entry
 entryFor s ks track key r = record { track = track; key = key; before = keyAt ks (place s track key); after = edited s ks track key r }
@@ -81,14 +84,10 @@ entryFor s ks track key r = record { track = track; key = key; before = keyAt ks
 -- leaves reach and redo as they were" (document 02, 4/13). Refusals come first.
 unfoldable pub editOf : List ℕ → Player → Keys → ℕ → ℕ → Request → EditedKeys
 editOf s p ks track key r =
-    let n = declines (editTable s p ks track key r) in
     let same = unchanged s ks track key r in
-    record {
-      refusal = n;
-      unchanged = eqb n 0 && same;
-      player = cond (eqb n 0 && not same) (editedPlayer p (entryFor s ks track key r)) p;
-      keys = cond (eqb n 0 && not same) (putKey ks (place s track key) (edited s ks track key r)) ks;
-    }
+    editedBy (declines (editTable s p ks track key r)) same p ks
+    (cond same p (editedPlayer p (entryFor s ks track key r)))
+    (cond same ks (putKey ks (place s track key) (edited s ks track key r)))
 
 -- Loading: the sheet's keys, and a fresh player.
 unfoldable pub loadedOf : List ℕ → Keys → Changed
@@ -123,13 +122,9 @@ openOf s p ks track key =
 -- A drag: a key edit of that key, which the journal doesn't take. An unchanged one is an accepted request too.
 unfoldable pub dragOf : List ℕ → Player → Keys → Float → Float → EditedKeys
 dragOf s p ks x v =
-    let n = declines (dragTable s p ks x v) in
-    record {
-      refusal = n;
-      unchanged = eqb n 0 && unchanged s ks (p .drag .track) (p .drag .key) (request.Key x v);
-      player = cond (eqb n 0) (withDrag p (movedOn (p .drag))) p;
-      keys = cond (eqb n 0) (putKey ks (heldAt s p) (edited s ks (p .drag .track) (p .drag .key) (request.Key x v))) ks;
-    }
+    editedBy (declines (dragTable s p ks x v)) (unchanged s ks (p .drag .track) (p .drag .key) (request.Key x v)) p ks
+    (withDrag p (movedOn (p .drag)))
+    (putKey ks (heldAt s p) (edited s ks (p .drag .track) (p .drag .key) (request.Key x v)))
 
 -- A drop: the key stays where it is, as one edit unless it is unchanged.
 unfoldable pub dropOf : List ℕ → Player → Keys → Edited

@@ -15,7 +15,8 @@ ghost use Rattle.edit.specs.Keys.{lent};
 ghost use Rattle.menu.specs.Rows.{editTable};
 ghost use Rattle.menu.specs.Calls.{gaveEdit, editOf};
 
-// What an edit, a drag and a drop answer. `unchanged`: nothing was declined, and the key has the same bits as before; or no drag was accepted before a drop.
+// What an edit, a drag and a drop answer. `unchanged`: accepted, and the key has the same bits as before the call, for a drop as at the opening; also a drop
+// with no accepted drag.
 #[repr(C)]
 pub struct Edited {
     pub refusal: u8,
@@ -47,7 +48,8 @@ fn edit_refusal(
     request_refusal(frames, spot, r)
 }
 
-// The edit of either kind: the key is made and put in its place, and its entry goes into the journal. A key that has the same bits as before is neither.
+// The edit of either kind: the key is made and put in its place, and its entry goes into the journal. Where the key has the same bits as before,
+// nothing is stored and there is no entry.
 fn edit(
     p: Player,
     s: &[u8],

@@ -1,5 +1,5 @@
 -- A drag (document 02, 2/13): one key of the sheet, held from its opening to its drop or its abandonment; its key as it was at opening; and when it is
--- broken (row 5 of the table) or in the way (row 15); and when its drop leaves the key as it was (4/13). Definitions only.
+-- broken (row 5 of the table) or in the way (row 15); and when its drop leaves no edit (4/13). Definitions only.
 use Prim.Native.Nat.{ℕ}
 use mathlib.Core.Bool.{Bool, true, false, not, _||_}
 use mathlib.Core.List.{List, [], _∷_}

@@ -1,4 +1,4 @@
--- The player after an accepted edit (document 01, "Playing and editing"). Definitions only.
+-- The player after an edit that is made (document 01, "Playing and editing"). Definitions only.
 use Prim.Native.Nat.{ℕ, _+_, min}
 use Rattle.player.specs.declared.Player.{Player}
 use Rattle.player.specs.declared.journal.Entry.{Entry}
@@ -9,7 +9,7 @@ use Rattle.player.specs.Parts.{withEdits}
 abbrev pub oneMore : ℕ → ℕ
 oneMore reach = min (reach + 1) rows
 
--- Accepted edit: reach + 1 up to 128, redo emptied, accepted + 1; its entry goes into the journal.
+-- Accepted edit, unchanged ones apart: reach + 1 up to 128, redo emptied, accepted + 1; its entry goes into the journal.
 unfoldable pub editedPlayer : Player → Entry → Player
 editedPlayer p e =
     withEdits p

@@ -1,5 +1,5 @@
 -- The player by its three parts (document 01, "Playing and editing"; document 02, 2/13): the view, which play, pose and tick move; the edits, which an
--- accepted edit, an undo, a redo and a drop move; and the drag. `playerOf` is the one place that lists the player's fields. Definitions only.
+-- edit that is made, an undo, a redo and a drop move; and the drag. `playerOf` is the one place that lists the player's fields. Definitions only.
 use Prim.Native.Nat.{ℕ}
 use mathlib.Core.Bool.{Bool, false}
 use lib.Ieee.{Float}

@@ -1,4 +1,4 @@
-// The player after an accepted edit.
+// The player after an edit that is made.
 use crate::Player;
 use crate::journal::Entry;
 use crate::journal::ROWS;

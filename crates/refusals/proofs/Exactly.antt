@@ -9,7 +9,7 @@ use native.Mathlib.Omega.{arith}
 use lib.ListN.{length}
 use Rattle.laws.specs.Rows.{Hold, holds-then, Fails, declines-then, Decided, none-fails, one-fails, only-then, held}
 use Rattle.machine.specs.Asks.{one, tables, resolvedPane, resolvedLayer, name, cascaded}
-use Rattle.machine.specs.Calls.{Answer, number, edited, ticked, told, written, stepP}
+use Rattle.machine.specs.Calls.{Answer, number, editAnswer, ticked, told, written, stepP}
 use Rattle.refusals.specs.Outward.{Outward, made, load, nextName, nextNameOut, textureNameOut, uvs, corners, translate, rotatePoint}
 use Rattle.refusals.specs.Table.{tableOf, refusalOf}
 use Rattle.refusals.specs.Given.{NameSays, Says, Answers}
@@ -36,7 +36,7 @@ name-same k n (suc m) a b z = absurd (let e = sym (a .1 z) ∙ ap length (b .0 (
 
 says-same : (x : Answer) (n m : ℕ) → Says x n → Says x m → n ≡ 0 → m ≡ 0
 says-same (number k) n m = number-same
-says-same (edited k same) n m = number-same
+says-same (editAnswer k same) n m = number-same
 says-same (ticked k t f) n m = number-same
 says-same (told (one r)) n m = number-same
 says-same (told (tables r)) n m = number-same

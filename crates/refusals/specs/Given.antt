@@ -18,7 +18,7 @@ use Rattle.menu_readings.specs.Readings.{noPane, noLayer}
 use Rattle.field.specs.Name.{nameBytes}
 use Rattle.menu_c.specs.Naming.{nextNameInto, textureNameInto}
 use Rattle.machine.specs.Asks.{Ask, paneChannel, materialChannel, all, pane, layer, texture, cascade, Told, one, tables, resolvedPane, resolvedLayer, name, cascaded}
-use Rattle.machine.specs.Calls.{Call, play, pose, tick, edit, undo, redo, openDrag, drag, dropDrag, abandonDrag, ask, save, Answer, number, edited, ticked, told, written, State, stepP}
+use Rattle.machine.specs.Calls.{Call, play, pose, tick, edit, undo, redo, openDrag, drag, dropDrag, abandonDrag, ask, save, Answer, number, editAnswer, ticked, told, written, State, stepP}
 use Rattle.refusals.specs.Outward.{Outward, made, load, nextName, nextNameOut, textureNameOut, uvs, corners, translate, rotatePoint}
 
 -- ---- the number
@@ -30,7 +30,7 @@ NameSays k n = ((n ≡ 0 → ⊥) → k ≡ []) × (n ≡ 0 → length k ≡ nam
 -- what an answer says of the refusal n
 abbrev pub Says : Answer → ℕ → Type 0
 Says (number m) n = m ≡ n
-Says (edited m same) n = m ≡ n
+Says (editAnswer m same) n = m ≡ n
 Says (ticked m a k) n = m ≡ n
 Says (told (one r)) n = r .refusal ≡ n
 Says (told (tables r)) n = r .refusal ≡ n
@@ -53,10 +53,10 @@ Answers s (rotatePoint p c r) n = turnedOf p c r .refusal ≡ n
 
 -- ---- what else is answered where a call is declined: "numbers alone come back"
 
--- no key that is unchanged, a tick that met nothing and names nothing, a reading of nothing, +0 throughout, an empty name
+-- not unchanged, a tick that met nothing and names nothing, a reading of nothing, +0 throughout, an empty name
 abbrev pub Alone : Answer → Type 0
 Alone (number m) = Unit {0}
-Alone (edited m same) = same ≡ false
+Alone (editAnswer m same) = same ≡ false
 Alone (ticked m a k) = (a ≡ Idle) × (k ≡ [])
 Alone (told (one r)) = r .reading ≡ Nothing
 Alone (told (tables r)) = Unit {0}
@@ -130,7 +130,7 @@ callBefore (save o) t = lentWith t (o ∷ []) []
 
 abbrev pub callAfter : State × Answer → Lent
 callAfter (t, number m) = lentWith t [] []
-callAfter (t, edited m same) = lentWith t [] []
+callAfter (t, editAnswer m same) = lentWith t [] []
 callAfter (t, ticked m a k) = lentWith t [] []
 callAfter (t, told r) = leftBy t r
 callAfter (t, written r) = lentWith t (r .out ∷ []) []

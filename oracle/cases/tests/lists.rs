@@ -58,7 +58,8 @@ fn lists_reach_every_refusal_and_long_journals() {
     assert!(slots.iter().all(|&n| n > 10), "{slots:?}");
 }
 
-/// Each state of a drag is met by each call, and row 9 where there is no room.
+/// Each state of a drag is met by each call, and a drop on the starting bits where there
+/// is room; row 9 where there is none.
 #[test]
 fn short_lists_of_drags() {
     let mut unchanged = Unchanged::default();

@@ -15,6 +15,11 @@ use cases::sheets::damage;
 /// The middle key of the base's first track: its frame and its value. Its slope is 0.
 pub const MIDDLE: (f32, f32) = (4.0, -2.5);
 
+/// An edit of the base's last Hermite key, no two alike.
+pub fn edit(n: usize) -> Call {
+    key_edit(0, 2, 8.0 + n as f32 / 256.0, n as f32)
+}
+
 pub struct Both {
     pub walk: Walk,
     pub ours: Ours,

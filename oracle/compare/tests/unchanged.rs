@@ -4,16 +4,11 @@
 use cases::calls::player::ROWS;
 use cases::calls::spoil::{self, Spoil};
 use cases::calls::{Answer, Call, NONE, Told};
-use compare::both::{Both, MIDDLE, drag, field, hermite, key_edit, open, slope_edit};
+use compare::both::{Both, MIDDLE, drag, edit, field, hermite, key_edit, open, slope_edit};
 
 /// Return on the base's middle Hermite key.
 fn pressed() -> Call {
     key_edit(0, 1, MIDDLE.0, MIDDLE.1)
-}
-
-/// An edit of the base's last Hermite key, no two alike.
-fn edit(n: usize) -> Call {
-    key_edit(0, 2, 8.0 + n as f32 / 256.0, n as f32)
 }
 
 /// "An artist undid five moves, clicked a key, pressed return": all five come back. So

@@ -2,12 +2,7 @@
 //! the library beside the plain machine and the plain player.
 
 use cases::calls::Call;
-use compare::both::{Both, MIDDLE, drag, hermite, key_edit, open};
-
-/// An edit of the base's last Hermite key, no two alike.
-fn edit(n: usize) -> Call {
-    key_edit(0, 2, 8.0 + n as f32 / 256.0, n as f32)
-}
+use compare::both::{Both, MIDDLE, drag, edit, hermite, key_edit, open};
 
 /// Back to where the middle key is loaded.
 fn back() -> Call {

@@ -1,15 +1,26 @@
 //! How many edits, drags and drops of a run were unchanged.
 
-use super::{Answer, Call, Told};
+use super::{Answer, Call, Request, Told};
 use std::fmt;
 
-/// By a call's code.
-const KINDS: [(u8, &str); 4] = [
-    (3, "key edits"),
-    (4, "slope edits"),
-    (17, "drags"),
-    (18, "drops"),
-];
+const KINDS: [&str; 4] = ["key edits", "slope edits", "drags", "drops"];
+
+/// The place in `KINDS` of a call that answers `Told::Edited`.
+fn kind(call: &Call) -> usize {
+    match call {
+        Call::Edit {
+            request: Request::Key { .. },
+            ..
+        } => 0,
+        Call::Edit {
+            request: Request::Slope(_),
+            ..
+        } => 1,
+        Call::Drag { .. } => 2,
+        Call::DropDrag => 3,
+        _ => panic!("{call:?} is of no kind"),
+    }
+}
 
 #[derive(Clone, Copy, Debug, Default)]
 pub struct Unchanged {
@@ -23,8 +34,8 @@ pub struct Unchanged {
 impl Unchanged {
     /// A call that left `redo` edits to be made again.
     pub fn add(&mut self, call: &Call, answer: &Answer, redo: u64) {
-        let kind = KINDS.iter().position(|(code, _)| *code == call.code());
-        if let (Some(kind), Told::Edited { unchanged }, 0) = (kind, &answer.told, answer.refusal) {
+        if let (Told::Edited { unchanged }, 0) = (&answer.told, answer.refusal) {
+            let kind = kind(call);
             self.accepted[kind] += 1;
             self.unchanged[kind] += u64::from(*unchanged);
             self.redo += u64::from(*unchanged && redo > 0);
@@ -43,17 +54,17 @@ impl Unchanged {
         self.each().all(both_ways) && self.redo > 0
     }
 
-    /// Whether a twentieth of each kind was unchanged.
+    /// Whether each kind occurred, a twentieth of it unchanged.
     pub fn is_frequent(&self) -> bool {
-        self.each().all(|(all, unchanged)| 20 * unchanged >= all)
+        let twentieth = |(all, unchanged)| all > 0 && 20 * unchanged >= all;
+        self.each().all(twentieth)
     }
 }
 
 impl fmt::Display for Unchanged {
     fn fmt(&self, f: &mut fmt::Formatter<'_>) -> fmt::Result {
         let kinds = self.each().zip(KINDS);
-        let kinds =
-            kinds.map(|((all, unchanged), (_, what))| format!("{unchanged} of {all} {what}"));
+        let kinds = kinds.map(|((all, unchanged), what)| format!("{unchanged} of {all} {what}"));
         let kinds: Vec<String> = kinds.collect();
         let redo = self.redo;
         write!(f, "{}; {redo} with something to redo", kinds.join(", "))

@@ -1,6 +1,8 @@
 -- `drag` gives `dragOf`, refusal, whether it is unchanged, player and all three key arrays: a key edit of the open key, which the journal doesn't take.
+use Rattle.menu.specs.Calls.{dragOf}
+use Rattle.menu.proofs.Results.{edited-not}
 use Rattle.menu.proofs.Edits.{unchanged-is}
-use Rattle.menu.proofs.Drags.{drag-allowed, drag-not, drag-made}
+use Rattle.menu.proofs.Drags.{drag-allowed, drag-made}
 use borrow.Author.Needs.{needs}
 use Rattle.menu.proofs.dragging.drag.Statement.{statement}
 use Rattle.menu.proofs.dragging.drag.Tie as tie
@@ -18,7 +20,8 @@ same-length-3 : tie.Need-same-length-3
 same-length-3 c = search needs
 
 returns : tie.Need-returns
-returns c = drag-not _ _ _ _ _ _ _ (c .before .drag-refusal .ensures) (c .if1 .taken)
+unfolding dragOf
+returns c = edited-not _ _ _ _ _ (c .before .drag-refusal .ensures) (c .if1 .taken)
 
 cast-spot-of : tie.Need-cast-spot-of
 cast-spot-of c = search needs
@@ -42,7 +45,8 @@ edited-requires c κs =
 
 put-key-requires : tie.Need-put-key-requires
 put-key-requires c κs =
-    let at-spot-of = c .before .before .before .before .before .before .before .before .before .before .before in
+    let at-edited = c .before .before .before in
+    let at-spot-of = at-edited .before .before .before .before .before .before .before .before in
     let at-if1 = at-spot-of .before .before .before in
     let w = drag-allowed _ _ _ _ _ _ _ (at-if1 .before .drag-refusal .ensures) (at-if1 .if1 .left) in
     rw (at-spot-of .spot-of .ensures) (record { frames = w .inside .frames .here; values = w .inside .values; slopes = w .inside .slopes })

@@ -1,6 +1,8 @@
 -- `edit` gives `editOf`, refusal, whether it is unchanged, player and all three key arrays: the key is made and put in its place, and its entry goes into
--- the journal; unchanged, it is neither.
-use Rattle.menu.proofs.Edits.{allowed, unchanged-is, edit-not, same-is, made-is}
+-- the journal; where the key has the same bits as before, nothing is stored and there is no entry.
+use Rattle.menu.specs.Calls.{editOf}
+use Rattle.menu.proofs.Results.{edited-not}
+use Rattle.menu.proofs.Edits.{allowed, unchanged-is, same-is, made-is}
 use borrow.Author.Needs.{needs}
 use Rattle.menu.proofs.editing.edit.Statement.{statement}
 use Rattle.menu.proofs.editing.edit.Tie as tie
@@ -18,7 +20,8 @@ same-length-3 : tie.Need-same-length-3
 same-length-3 c = search needs
 
 returns : tie.Need-returns
-returns c = edit-not _ _ _ _ _ _ _ _ _ (c .before .edit-refusal .ensures) (c .if1 .taken)
+unfolding editOf
+returns c = edited-not _ _ _ _ _ (c .before .edit-refusal .ensures) (c .if1 .taken)
 
 spot-of-requires : tie.Need-spot-of-requires
 spot-of-requires c κs = let w = allowed _ _ _ _ _ _ _ _ _ (c .before .edit-refusal .ensures) (c .if1 .left) in (w .sheet, w .on)
@@ -62,14 +65,19 @@ returns-2 c =
 
 put-key-requires : tie.Need-put-key-requires
 put-key-requires c κs =
-    let at-spot-of = c .before .before .before .before .before .before .before .before .before .before .before .before .before in
+    let at-if2 = c .before .before .before in
+    let at-edited = at-if2 .before .before in
+    let at-spot-of = at-edited .before .before .before .before .before .before .before .before in
     let at-if1 = at-spot-of .before in
     let at-edit-refusal = at-if1 .before in
     let w = allowed _ _ _ _ _ _ _ _ _ (at-edit-refusal .edit-refusal .ensures) (at-if1 .if1 .left) in rw (at-spot-of .spot-of .ensures) (record { frames = w .inside .frames .here; values = w .inside .values; slopes = w .inside .slopes })
 
 after-edit-requires : tie.Need-after-edit-requires
 after-edit-requires c κs =
-    let at-if1 = c .before .before .before .before .before .before .before .before .before .before .before .before .before .before .before .before .before .before .before .before .before in
+    let at-put-key = c .before .before .before .before .before .before in
+    let at-if2 = at-put-key .before .before .before .before in
+    let at-edited = at-if2 .before .before in
+    let at-if1 = at-edited .before .before .before .before .before .before .before .before .before in
     let at-edit-refusal = at-if1 .before in
     (allowed _ _ _ _ _ _ _ _ _ (at-edit-refusal .edit-refusal .ensures) (at-if1 .if1 .left)) .counts
 

@@ -179,8 +179,8 @@ impl Machine {
         })
     }
 
-    /// "Accepted edit: append, reach + 1 up to 128, redo emptied, accepted + 1." Of
-    /// document 02, none that is unchanged.
+    /// "Accepted edit: append, reach + 1 up to 128, redo emptied, accepted + 1." An
+    /// unchanged edit (document 02, 4/13) isn't appended.
     fn append(&mut self, edit: Edit) {
         self.standing.push(edit);
         self.reach = (self.reach + 1).min(ROWS as u64);

@@ -176,20 +176,25 @@ fn each_verb_of_an_edit_and_a_drag_is_accepted_and_declined() {
     each_occurs(&drags, 20, &answers, |line, word| line.ends_with(word));
 }
 
-/// An answer that something is unchanged, and the line that tells the player after it:
-/// with something to redo, and after a drop of a key that was dragged.
+/// Where something is unchanged, the lines that tell the player before and after it
+/// differ in the drag alone: some with something to redo, some of a drop of a key that
+/// was dragged.
 #[test]
 fn unchanged_keys_keep_what_can_be_made_again() {
     let answers = lines(lists(1).map(|list| list.answers));
     let (mut redo, mut back) = (0, 0);
-    let mut dragged = false;
+    let mut before = "";
     for pair in answers.windows(2) {
-        if pair[0].starts_with("unchanged ") {
-            redo += usize::from(!pair[1].contains(" redo 0 "));
-            back += usize::from(dragged && pair[1].ends_with(" drag none"));
+        let [told, after] = [&pair[0], &pair[1]];
+        if told.starts_with("unchanged ") {
+            let [(was, dragged), (is, drag)] =
+                [before, after].map(|line| line.split_once(" drag ").expect("a player"));
+            assert_eq!(is, was);
+            redo += usize::from(!is.contains(" redo 0 "));
+            back += usize::from(dragged.ends_with(", moved") && drag == "none");
         }
-        if pair[0].starts_with("selection ") {
-            dragged = pair[0].ends_with(", moved");
+        if told.starts_with("selection ") {
+            before = told;
         }
     }
     println!("{redo} with something to redo, {back} dropped where they were");
