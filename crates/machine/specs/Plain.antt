@@ -183,12 +183,14 @@ abbrev pub dragsTo : ℕ → Bool → Plain → Dragging → Plain × Answer
 dragsTo zero same m d = (holding m d, editAnswer 0 same)
 dragsTo (suc n) same m d = (m, editAnswer (suc n) false)
 
+abbrev pub dragsKey : List ℕ → Plain → ℕ → ℕ → ℕ → Float → Float → Plain × Answer
+dragsKey s m a track key x v =
+    dragsTo (declines (requestRows (keysOf s m .frames) (spotOf s track key) (request.Key x v))) (unchanged s (keysOf s m) track key (request.Key x v)) m (dragged a track key x v)
+
 abbrev pub drags : List ℕ → Plain → Float → Float → Dragging → Plain × Answer
 drags s m x v closed = (m, editAnswer 15 false)
-drags s m x v (opened a track key) =
-    dragsTo (declines (requestRows (keysOf s m .frames) (spotOf s track key) (request.Key x v))) (unchanged s (keysOf s m) track key (request.Key x v)) m (dragged a track key x v)
-drags s m x v (dragged a track key y w) =
-    dragsTo (declines (requestRows (keysOf s m .frames) (spotOf s track key) (request.Key x v))) (unchanged s (keysOf s m) track key (request.Key x v)) m (dragged a track key x v)
+drags s m x v (opened a track key) = dragsKey s m a track key x v
+drags s m x v (dragged a track key y w) = dragsKey s m a track key x v
 
 -- Drop: the last accepted request is an edit of the standing keys, which are the keys of the opening. With no accepted drag it is unchanged.
 abbrev pub drops : List ℕ → Plain → Dragging → Plain × Answer
