@@ -192,7 +192,7 @@ fn animation(random: &mut Random, held: &Held) -> u16 {
     random.pick(&with_keys)
 }
 
-fn animation_of(sheet: &Sheet, target: &Target) -> u16 {
+pub fn animation_of(sheet: &Sheet, target: &Target) -> u16 {
     u16::from(sheet.contents[usize::from(target.content)].animation)
 }
 

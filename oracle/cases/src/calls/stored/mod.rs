@@ -10,9 +10,9 @@ use super::held::Held;
 use super::player::{Drag, ROWS};
 use super::some::{self, Mode};
 use super::walk::{Step, Walk};
-use super::{Call, text};
+use super::{Call, Request, Told, text};
 use crate::format::book::Book;
-use crate::format::sheet::Sheet;
+use crate::format::sheet::{Sheet, Target};
 use crate::random::Random;
 use crate::readings::whole::PANE_CHANNELS;
 
@@ -66,7 +66,8 @@ impl List {
     }
 
     /// Writes a call and its answer, and what it may have moved; gives its refusal.
-    /// Where an undo took the last standing edit, the sheet is saved as it was.
+    /// Where an undo took the last standing edit, or an edit or a drop left none and is
+    /// unchanged, the sheet is saved as it was.
     fn keep(&mut self, step: &Step) -> u8 {
         let Step::Called(call, answer) = step else {
             panic!("{step:?} is no call");
@@ -84,7 +85,9 @@ impl List {
                 self.show();
             }
         }
-        if matches!(call, Call::Undo) && refusal == 0 && self.walk.is_unedited() {
+        let undone = matches!(call, Call::Undo) && refusal == 0;
+        let unchanged = answer.told == Told::Edited { unchanged: true };
+        if (undone || unchanged) && self.walk.is_unedited() {
             self.call(Call::Save { short: 0 });
         }
         refusal
@@ -106,6 +109,32 @@ impl List {
         self.calls.push_str(line);
         self.calls.push('\n');
         self.answers.extend(answer);
+    }
+
+    /// Of each key of a curve, an edit is made and undone, and the key opened and
+    /// dropped where it is: the player then shows that there is still one to redo.
+    fn drop_each_key(&mut self) {
+        let sheet = &self.walk.held.sheet;
+        let long = |target: &Target| target.key_count > 2;
+        let track = sheet.targets.iter().position(long).expect("a long curve");
+        let target = &sheet.targets[track];
+        let (animation, count) = (some::animation_of(sheet, target), target.key_count);
+        let track = track as u16;
+        self.call(Call::Pose(animation, 0.0));
+        for key in 0..count {
+            let request = Request::Key {
+                frame: f32::MAX,
+                value: 7.0,
+            };
+            self.call(Call::Edit {
+                track,
+                key,
+                request,
+            });
+            self.call(Call::Undo);
+            self.call(Call::OpenDrag { track, key });
+            self.call(Call::DropDrag);
+        }
     }
 
     /// Each animation past its last frame, where it ends unless it loops.
@@ -164,7 +193,7 @@ fn random_list(seed: u64) -> List {
     list.finish()
 }
 
-/// More edits than a journal holds; undo until it is declined, and what stands
+/// Keys that are dropped where they are; more edits than a journal holds; undo until it is declined, and what stands
 /// then is saved; redo until it is, and a drag over the full journal; a few undone
 /// again, and an edit, after which nothing can be made again.
 fn long_list(seed: u64) -> List {
@@ -175,6 +204,7 @@ fn long_list(seed: u64) -> List {
         let call = some::call(&mut random, &list.walk.held, mode);
         list.call(call)
     };
+    list.drop_each_key();
     while list.walk.held.player.standing < MANY {
         draw(&mut list, Mode::Edits);
     }

@@ -124,7 +124,8 @@ fn sheets_are_saved_as_they_were_and_otherwise() {
     let saves = answers.iter().filter(|line| line.starts_with("saved "));
     let (same, other): (Vec<_>, Vec<_>) =
         saves.partition(|line| line.contains(" bytes, 0 differ "));
-    assert!(same.len() > 10 && other.len() > 20);
+    println!("{} as they were, {} otherwise", same.len(), other.len());
+    assert!(same.len() > 20 && other.len() > 20);
 }
 
 /// A call that may move the player is followed by a line that tells it.
