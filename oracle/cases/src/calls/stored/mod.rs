@@ -193,9 +193,9 @@ fn random_list(seed: u64) -> List {
     list.finish()
 }
 
-/// Keys that are dropped where they are; more edits than a journal holds; undo until it is declined, and what stands
-/// then is saved; redo until it is, and a drag over the full journal; a few undone
-/// again, and an edit, after which nothing can be made again.
+/// Keys that are dropped where they are; more edits than a journal holds; undo until it
+/// is declined, and what stands then is saved; redo until it is, and a drag over the
+/// full journal; a few undone again, and an edit, after which nothing can be made again.
 fn long_list(seed: u64) -> List {
     let mut random = Random::new(seed);
     let (sheet, book) = menu(&mut random);
