@@ -92,6 +92,7 @@ impl fmt::Display for Refusal {
 impl std::error::Error for Refusal {}
 
 /// What the number that a call came back with means. The contracts allow 0 to 15.
+#[inline]
 pub(crate) fn checked(number: u8) -> Result<(), Refusal> {
     if number == 0 {
         return Ok(());

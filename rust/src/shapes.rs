@@ -46,6 +46,9 @@ pub fn uvs_into(layers: &[f32], srts: &[f32], out: &mut [f32]) -> Result<(), Ref
     })
 }
 
+// The calls that take vectors are inlined: a vector then goes over from where it lies. As a parameter of a function of its own it is two floats,
+// put together in memory for C and read back by a load that waits for both.
+#[inline]
 fn placed(answer: raw::Placed) -> Result<Corners, Refusal> {
     checked(answer.refusal)?;
     Ok(answer.corners)
@@ -65,6 +68,7 @@ fn placed(answer: raw::Placed) -> Result<Corners, Refusal> {
 /// assert_eq!(corners(center, size, 3, 0, still), Err(Refusal::NoSuch));
 /// # Ok::<(), dovebolt::Refusal>(())
 /// ```
+#[inline]
 pub fn corners(
     center: Vector2f,
     size: Vector2f,
@@ -85,6 +89,7 @@ pub fn corners(
 /// assert_eq!(moved.bottom_right, Vector2f { x: 1.0, y: 2.0 });
 /// # Ok::<(), dovebolt::Refusal>(())
 /// ```
+#[inline]
 pub fn translate(corners: Corners, delta: Vector2f) -> Result<Corners, Refusal> {
     // SAFETY: numbers only.
     placed(unsafe { raw::menu_translate(corners, delta) })
@@ -102,6 +107,7 @@ pub fn translate(corners: Corners, delta: Vector2f) -> Result<Corners, Refusal> 
 /// assert_eq!(rotate_point(point, center, steep), Err(Refusal::Angle));
 /// # Ok::<(), dovebolt::Refusal>(())
 /// ```
+#[inline]
 pub fn rotate_point(
     point: Vector2f,
     center: Vector2f,

@@ -4,11 +4,20 @@ use mathlib.Core.List.{List}
 use mathlib.Core.Path.{_≡_, refl}
 use native.Mathlib.Omega.{arith}
 use borrow.Author.Tests.{le-ltb}
+use Rattle.field.specs.Index.{Indexed}
 use Rattle.sheet.specs.Sizes.{contentCount}
 use Rattle.sheet.specs.Checked.{Checked}
+use Rattle.book.specs.Sizes.{paneCount, materialCount, paneBytes, materialBytes, panesAt, materialsAt}
+use Rattle.book.specs.Checked.{CheckedBook}
 use Rattle.channel.specs.Channel.{activeReach}
 use Rattle.channel.specs.declared.Reached.the-variants as reached
 use Rattle.channel.specs.declared.reach.Held.{Held}
+
+-- a checked book, with indexes of its pane names and of its material names
+pub record Searched (b panes materials : List ℕ) : Type 0 where
+  pub book : CheckedBook b
+  pub labels : Indexed b panesAt paneBytes (paneCount b) panes
+  pub names : Indexed b (materialsAt b) materialBytes (materialCount b) materials
 
 -- no content
 abbrev pub noneHeld : Held

@@ -21,7 +21,9 @@ pub use place::hits;
 pub use place::place_of;
 pub use reach::Held;
 pub use reach::held_for;
+pub use reach::material_index;
 pub use reach::none_held;
+pub use reach::pane_index;
 
 // A target's family, by its four-letter code.
 pub enum Family {

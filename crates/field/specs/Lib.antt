@@ -4,4 +4,6 @@ pub mod Name
 pub mod Same
 pub mod Table
 pub mod Word
+pub mod Bucket
+pub mod Index
 pub mod Write

@@ -21,6 +21,11 @@ u16At s i = byteAt s i + byteAt s (i + 1) * 256
 unfoldable pub u32At : List ℕ → ℕ → ℕ
 u32At s i = u16At s i + u16At s (i + 2) * 65536
 
+-- which is that of its four bytes, the lowest first
+pub u32-bytes : (s : List ℕ) (i : ℕ) → u32At s i ≡ byteAt s i + byteAt s (i + 1) * 256 + byteAt s (i + 2) * 65536 + byteAt s (i + 3) * 16777216
+unfolding u32At u16At
+u32-bytes s i = let e : i + 2 + 1 ≡ i + 3 = omega arith in rw e (omega arith)
+
 -- the f32 at i
 unfoldable pub floatAt : List ℕ → ℕ → Float
 floatAt s i = # (u32At s i)

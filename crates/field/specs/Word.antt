@@ -1,6 +1,6 @@
--- Eight bytes as one number: two fields are compared by words of eight bytes. Assumes nothing.
+-- Eight bytes as one number: two fields are compared by words of eight bytes, and so is one with zeros. Assumes nothing.
 use Prim.Native.Nat.{ℕ, _+_, _-_, _*_, _%_, _/_, _<_, _≤_}
-use mathlib.Core.List.{List}
+use mathlib.Core.List.{List, []}
 use mathlib.Core.Bool.{Bool, true, false, _&&_, and-assoc}
 use mathlib.Core.Path.{_≡_, refl, sym, _∙_, ap}
 use native.Mathlib.Nat.{add-comm, add-assoc, add-zero}
@@ -10,7 +10,7 @@ use lib.Arith.{digits-div, digits-mod}
 use lib.Dec.{eqb, ltb}
 use Rattle.laws.specs.Below.{allBelow, all-at, all-of, Passed}
 use Rattle.field.specs.Read.{byteAt, u16At, u32At}
-use Rattle.field.specs.Name.{nameBytes, sameByte, sameName}
+use Rattle.field.specs.Name.{nameBytes, sameByte, sameName, zeroByte, emptyName}
 
 -- the eight bytes at i
 unfoldable pub wordAt : List ℕ → ℕ → ℕ
@@ -97,3 +97,8 @@ module _ (s t : List ℕ) (b : Bytes s) (d : Bytes t) where
           let x : i + 16 + (m - 16) ≡ i + m = omega (arith, ltb-false m 16 q) in
           let y : j + 16 + (m - 16) ≡ j + m = omega (arith, ltb-false m 16 q) in
           rw (x, y) at (all-at 8 (sameByte s (i + 16) t (j + 16)) (m - 16) (sym (word-bytes (i + 16) (j + 16)) ∙ e) (omega (arith, ltb-false m 16 q)))
+
+-- a name is empty when its three words are 0: it is the same as that of an empty list, whose bytes are 0
+pub empty-words : (s : List ℕ) → Bytes s → (i : ℕ) → emptyName s i ≡ (eqb (wordAt s i) 0 && eqb (wordAt s (i + 8)) 0 && eqb (wordAt s (i + 16)) 0)
+unfolding emptyName zeroByte sameName sameByte wordAt u32At u16At
+empty-words s b i = same-words s [] b (λ k. omega arith) i 0 ∙ sym (and-assoc (eqb (wordAt s i) 0) _ _)

@@ -1,12 +1,18 @@
 // Fields of a lent slice of bytes: little-endian numbers, finite floats, which are also written, and names of 24 bytes.
+mod index;
+
+pub use index::blank_index;
+pub use index::find_indexed;
+pub use index::index_names;
 use laws::Found;
 ghost use mathlib.Core.Path.{_≡_};
 ghost use mathlib.Core.Bool.{true};
-ghost use Prim.Native.Nat.{_+_, _-_, _*_, _<_, _≤_};
+ghost use Prim.Native.Nat.{_+_, _*_, _<_, _≤_};
 ghost use lib.ListN.{length};
 ghost use Rattle.field.specs.Read.{byteAt, u16At, u32At, floatAt, finiteAt, finiteRow};
-ghost use Rattle.field.specs.Name.{nameBytes, nameAt, sameName, zeroByte, emptyName, otherName, nameOk, namesOk, findName, Fields};
+ghost use Rattle.field.specs.Name.{nameBytes, nameAt, sameName, emptyName, otherName, nameOk, namesOk, findName, Fields};
 ghost use Rattle.field.specs.Word.{wordAt};
+ghost use Rattle.field.specs.Bucket.{buckets, bucketOf};
 ghost use Rattle.field.specs.Write.{putFloat};
 ghost use Rattle.float.specs.Numbers.{finite};
 ghost use Rattle.laws.specs.Below.{allBelow};
@@ -33,11 +39,21 @@ pub fn u16_at(s: &[u8], at: usize) -> usize
     byte_at(s, at) + byte_at(s, at + 1) * 256
 }
 
+fn wide32(x: u8) -> u32
+    ensures { λ r. ⌜ (r ≡ x) × (r < 256) ⌝ }
+{
+    x as u32
+}
+
+// A u32, summed in its own width: so the compiler makes one load of it, and loops over u32s go several at a time.
 pub fn u32_at(s: &[u8], at: usize) -> u32
     requires { ⌜ at + 3 < length (now s) ⌝ }
     ensures { λ r. ⌜ r ≡ u32At (now (s .entry)) at ⌝ }
 {
-    (u16_at(s, at) + u16_at(s, at + 2) * 65536) as u32
+    wide32(s[at])
+        + wide32(s[at + 1]) * 256
+        + wide32(s[at + 2]) * 65536
+        + wide32(s[at + 3]) * 16777216
 }
 
 // Whether an f32 is finite, seen from its pattern: the exponent is not all ones.
@@ -93,34 +109,19 @@ pub fn name_at<'a>(s: &'a [u8], at: usize) -> &'a [u8]
     &s[at..at + NAME_BYTES]
 }
 
-fn zero_byte(s: &[u8], at: usize, k: usize) -> bool
-    requires { ⌜ at + k < length (now s) ⌝ }
-    ensures { λ r. ⌜ r ≡ zeroByte (now (s .entry)) at k ⌝ }
-{
-    byte_at(s, at + k) == 0
-}
-
-pub fn empty_name(s: &[u8], at: usize) -> bool
-    requires { ⌜ at + nameBytes ≤ length (now s) ⌝ }
-    ensures { λ r. ⌜ r ≡ emptyName (now (s .entry)) at ⌝ }
-{
-    let mut k = 0;
-    while k < NAME_BYTES {
-        if zero_byte(s, at, k) {
-            k += 1;
-        } else {
-            return false;
-        }
-    }
-    true
-}
-
 // Eight bytes as one number: names are compared by words, since labels often begin alike.
 fn word_at(s: &[u8], at: usize) -> u64
     requires { ⌜ at + 8 ≤ length (now s) ⌝ }
     ensures { λ r. ⌜ r ≡ wordAt (now (s .entry)) at ⌝ }
 {
     (u32_at(s, at) as u64) + (u32_at(s, at + 4) as u64) * 4294967296
+}
+
+pub fn empty_name(s: &[u8], at: usize) -> bool
+    requires { ⌜ at + nameBytes ≤ length (now s) ⌝ }
+    ensures { λ r. ⌜ r ≡ emptyName (now (s .entry)) at ⌝ }
+{
+    (word_at(s, at) == 0) & (word_at(s, at + 8) == 0) & (word_at(s, at + 16) == 0)
 }
 
 // Whether two fields hold one name.
@@ -152,21 +153,48 @@ fn fresh_name(s: &[u8], base: usize, stride: usize, i: usize) -> bool
     true
 }
 
-fn name_ok(s: &[u8], base: usize, stride: usize, i: usize) -> bool
-    requires { ⌜ Fields (now s) base stride (i + 1) ⌝ }
-    ensures { λ r. ⌜ r ≡ nameOk (now (s .entry)) base stride i ⌝ }
+// How many buckets names have.
+pub const BUCKETS: usize = 256;
+
+// 2^32 over the golden ratio.
+const GOLDEN: u64 = 2654435769;
+
+// The bucket of a name.
+fn bucket_of(s: &[u8], at: usize) -> usize
+    requires { ⌜ at + nameBytes ≤ length (now s) ⌝ }
+    ensures { λ r. ⌜ (r ≡ bucketOf (now (s .entry)) at) × (r < buckets) ⌝ }
 {
-    !empty_name(s, base + i * stride) & fresh_name(s, base, stride, i)
+    let front = std::num::wrapping_add_u64(word_at(s, at), word_at(s, at + 8));
+    let sum = std::num::wrapping_add_u64(front, word_at(s, at + 16));
+    let half = (sum % 4294967296 + sum / 4294967296) % 4294967296;
+    (half * GOLDEN % 4294967296 / 16777216) as usize
 }
 
-// Whether the names of a table's rows are distinct and not empty.
+// `seen` says whether an earlier row has row i's bucket: where it is 0, none has the name, and none is compared.
+fn name_ok(s: &[u8], base: usize, stride: usize, i: usize, seen: u8) -> bool
+    requires { ⌜ Fields (now s) base stride (i + 1) × (seen ≡ 0 → allBelow i (otherName (now s) base stride i) ≡ true) ⌝ }
+    ensures { λ r. ⌜ r ≡ nameOk (now (s .entry)) base stride i ⌝ }
+{
+    if empty_name(s, base + i * stride) {
+        return false;
+    }
+    if seen == 0 {
+        return true;
+    }
+    fresh_name(s, base, stride, i)
+}
+
+// Whether the names of a table's rows are distinct and not empty. The buckets seen so far spare most comparisons.
 pub fn names_ok(s: &[u8], base: usize, stride: usize, rows: usize) -> bool
     requires { ⌜ Fields (now s) base stride rows ⌝ }
     ensures { λ r. ⌜ r ≡ namesOk (now (s .entry)) base stride rows ⌝ }
 {
+    let mut seen = [0u8; BUCKETS];
     let mut i = 0;
     while i < rows {
-        if name_ok(s, base, stride, i) {
+        let bucket = bucket_of(s, base + i * stride);
+        if name_ok(s, base, stride, i, seen[bucket]) {
+            seen[bucket] = 1;
             i += 1;
         } else {
             return false;

@@ -1,4 +1,5 @@
 // The keys of a sheet: their rules, and loading them.
+mod blocks;
 mod load;
 mod rules;
 mod stored;

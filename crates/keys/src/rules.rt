@@ -1,20 +1,22 @@
 // Whether three lent lists are keys of a sheet: row 4 of the table of refusals.
-// The loops over keys have no early way out: they then go several keys at a time.
+use crate::blocks::constant_keys;
+use crate::blocks::rising_keys;
+use crate::blocks::step_keys;
 use curve::CONSTANT;
 use curve::Key;
 use curve::STEP;
-use float::is_finite;
+use float::all_finite;
 use float::is_whole16;
 use float::same_bits;
 ghost use mathlib.Core.Path.{_≡_};
 ghost use Prim.Native.Nat.{_+_, _-_, _*_, _<_, _≤_};
 ghost use lib.ListN.{length};
 ghost use Rattle.laws.specs.Below.{allBelow};
-ghost use Rattle.float.specs.Rising.{risingIn};
 ghost use Rattle.sheet.specs.Sizes.{targetCount, targetsAt};
-ghost use Rattle.keys.specs.Rules.{finiteKey, constantKey, stepKey, curveOk, keyRule};
+ghost use Rattle.keys.specs.Rules.{finiteKey, curveOk, keyRule};
 ghost use Rattle.keys.specs.Keys.{keysFit, heldTrack, keysOk, Fit};
 
+// No early way out, so the loop goes several keys at a time.
 fn finite_keys(frames: &[f32], values: &[f32], slopes: &[f32]) -> bool
     requires { ⌜ (length (now values) ≡ length (now frames)) × (length (now slopes) ≡ length (now frames)) ⌝ }
     ensures { λ r. ⌜ r ≡ allBelow (length (now (frames .entry))) (finiteKey (now (frames .entry)) (now (values .entry)) (now (slopes .entry))) ⌝ }
@@ -23,50 +25,7 @@ fn finite_keys(frames: &[f32], values: &[f32], slopes: &[f32]) -> bool
     let mut ok = true;
     let mut i = 0;
     while i < n {
-        ok = ok & (is_finite(frames[i]) & is_finite(values[i]) & is_finite(slopes[i]));
-        i += 1;
-    }
-    ok
-}
-
-fn constant_keys(frames: &[f32], slopes: &[f32], first: usize, count: usize) -> bool
-    requires { ⌜ (first + count ≤ length (now frames)) × (first + count ≤ length (now slopes)) ⌝ }
-    ensures { λ r. ⌜ r ≡ allBelow count (constantKey (now (frames .entry)) (now (slopes .entry)) first) ⌝ }
-{
-    let mut ok = true;
-    let mut i = 0;
-    while i < count {
-        ok = ok & (same_bits(frames[first + i], 0.0) & same_bits(slopes[first + i], 0.0));
-        i += 1;
-    }
-    ok
-}
-
-fn step_keys(values: &[f32], slopes: &[f32], first: usize, count: usize) -> bool
-    requires { ⌜ (first + count ≤ length (now values)) × (first + count ≤ length (now slopes)) ⌝ }
-    ensures { λ r. ⌜ r ≡ allBelow count (stepKey (now (values .entry)) (now (slopes .entry)) first) ⌝ }
-{
-    let mut ok = true;
-    let mut i = 0;
-    while i < count {
-        ok = ok & (same_bits(slopes[first + i], 0.0) & is_whole16(values[first + i]));
-        i += 1;
-    }
-    ok
-}
-
-// Whether frames never fall. The first is held against itself, so a NaN falls.
-fn rising_keys(frames: &[f32], first: usize, count: usize) -> bool
-    requires { ⌜ first + count ≤ length (now frames) ⌝ }
-    ensures { λ r. ⌜ r ≡ risingIn (now (frames .entry)) first count ⌝ }
-{
-    if count == 0 {
-        return true;
-    }
-    let mut ok = frames[first] <= frames[first];
-    let mut i = 1;
-    while i < count {
-        ok = ok & (frames[first + i - 1] <= frames[first + i]);
+        ok = ok & all_finite(frames[i], values[i], slopes[i]);
         i += 1;
     }
     ok

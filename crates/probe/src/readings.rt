@@ -1,8 +1,12 @@
 // A whole reading, without a player.
 use reading::Active;
+use reading::MOST_TARGETS;
+use reading::Plan;
 ghost use mathlib.Core.Path.{_≡_};
 ghost use mathlib.Core.Bool.{true};
+ghost use lib.ListN.{length};
 ghost use Rattle.reading.specs.Ready.{Ready};
+ghost use Rattle.reading.specs.Plan.{Planned};
 ghost use Rattle.probe.specs.Readable.{CanReadAll};
 
 // Rows 1, 2 and 4 of the table decline nothing.
@@ -39,7 +43,33 @@ fn active(selected: bool, animation: usize, frame: f32) -> Active {
     }
 }
 
-// The checks once and then `times` whole readings at frames that lie a step apart, as for a table of frames.
+// `times` rows of a plan, at frames that lie a step apart.
+fn read_rows(
+    s: &[u8],
+    b: &[u8],
+    p: Plan,
+    channels: &[u16],
+    frames: &[f32],
+    values: &[f32],
+    slopes: &[f32],
+    frame: f32,
+    step: f32,
+    times: usize,
+    marks: &mut [u8],
+    numbers: &mut [f32],
+)
+    requires { ⌜ CanReadAll (now s) (now b) (now frames) (now values) (now slopes) (length (now marks)) (length (now numbers)) × Planned (now s) (now b) p (now channels) ⌝ }
+{
+    let mut x = frame;
+    let mut k = 0;
+    while k < times {
+        reading::read_row(s, b, p, channels, frames, values, slopes, x, marks, numbers);
+        x = x + step;
+        k += 1;
+    }
+}
+
+// The checks and the plan once and then `times` rows, as for a table of frames.
 #[no_mangle]
 pub extern "C" fn probe_read_frames(
     s: &[u8],
@@ -57,22 +87,22 @@ pub extern "C" fn probe_read_frames(
     if !can_read_all(s, b, frames, values, slopes, marks.len(), numbers.len()) {
         return false;
     }
-    let mut x = frame;
-    let mut k = 0;
-    while k < times {
-        reading::read_all(
-            s,
-            b,
-            frames,
-            values,
-            slopes,
-            Active::At(animation, x),
-            marks,
-            numbers,
-        );
-        x = x + step;
-        k += 1;
-    }
+    let mut channels = [0u16; MOST_TARGETS];
+    let p = reading::plan_of(s, b, animation, &mut channels);
+    read_rows(
+        s,
+        b,
+        p,
+        &channels,
+        frames,
+        values,
+        slopes,
+        frame,
+        step,
+        times,
+        marks,
+        numbers,
+    );
     true
 }
 

@@ -1,2 +1,3 @@
--- What the pass over the targets keeps.
+-- What a plan tells, and what the pass over its targets keeps.
+pub mod Planning
 pub mod Pass

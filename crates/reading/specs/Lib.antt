@@ -3,3 +3,4 @@ pub mod Reading
 pub mod Overrides
 pub mod LastTarget
 pub mod Ready
+pub mod Plan

@@ -1,12 +1,17 @@
 // What the channels of a book read while an animation is active at a frame (document 01, "Channels").
+mod plan;
 mod single;
 mod value;
 mod whole;
 
+pub use plan::MOST_TARGETS;
+pub use plan::Plan;
+pub use plan::plan_of;
 pub use single::read_channel;
 pub use value::number_of;
 pub use value::row_reading;
 pub use whole::read_all;
+pub use whole::read_row;
 
 // The active animation and its frame, or nothing.
 pub enum Active {

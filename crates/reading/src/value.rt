@@ -5,7 +5,7 @@ use channel::family_of;
 use sheet::Target;
 ghost use mathlib.Core.Path.{_≡_};
 ghost use lib.Ieee.{toUnsigned};
-ghost use Rattle.reading.specs.Reading.{levelOf, rowOf, readAs, rowReading, markOf, numberOf};
+ghost use Rattle.reading.specs.Reading.{levelOf, rowOf, readAs, valueAt, rowReading, markOf, numberOf};
 ghost use Rattle.reading.specs.Ready.{ReadyRow};
 
 // A colour's level, as the Rust: round, clamp, cast.
@@ -27,7 +27,7 @@ fn row_of(n: u16, textures: usize) -> Reading
 }
 
 // What a target of a family reads where its curve's value is v.
-fn read_as(f: Family, v: f32, textures: usize) -> Reading
+pub fn read_as(f: Family, v: f32, textures: usize) -> Reading
     ensures { λ r. ⌜ r ≡ readAs f v (toUnsigned 16 v) textures ⌝ }
 {
     match f {
@@ -43,6 +43,15 @@ fn read_as(f: Family, v: f32, textures: usize) -> Reading
     }
 }
 
+// The value of a target's curve at frame x.
+pub fn row_value(frames: &[f32], values: &[f32], slopes: &[f32], x: f32, row: Target) -> f32
+    requires { ⌜ ReadyRow row (now frames) (now values) (now slopes) ⌝ }
+    ensures { λ r. ⌜ r ≡ valueAt (now (frames .entry)) (now (values .entry)) (now (slopes .entry)) x row ⌝ }
+{
+    let kind = row.curve as u8;
+    curve::eval_part(kind, frames, values, slopes, row.first, row.count, x)
+}
+
 // What a target's row reads at frame x.
 pub fn row_reading(
     frames: &[f32],
@@ -55,8 +64,7 @@ pub fn row_reading(
     requires { ⌜ ReadyRow row (now frames) (now values) (now slopes) ⌝ }
     ensures { λ r. ⌜ r ≡ rowReading textures (now (frames .entry)) (now (values .entry)) (now (slopes .entry)) x row ⌝ }
 {
-    let kind = row.curve as u8;
-    let v = curve::eval_part(kind, frames, values, slopes, row.first, row.count, x);
+    let v = row_value(frames, values, slopes, x, row);
     read_as(family_of(row.code), v, textures)
 }
 

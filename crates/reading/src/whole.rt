@@ -1,13 +1,15 @@
-// The whole reading: a mark and a number for each channel of the book, in one pass over the targets.
+// The whole reading: a mark and a number for each channel of the book, by a plan and one pass over its targets.
 use crate::Active;
 use crate::Reading;
+use crate::plan::MOST_TARGETS;
+use crate::plan::NO_CHANNEL;
+use crate::plan::Plan;
+use crate::plan::plan_of;
 use crate::value::mark_of;
 use crate::value::number_of;
-use crate::value::row_reading;
-use channel::held_for;
-use channel::none_held;
-use channel::row_channel;
-use laws::Found;
+use crate::value::read_as;
+use crate::value::row_value;
+use channel::family_of;
 ghost use mathlib.Core.Path.{_≡_};
 ghost use Prim.Native.Nat.{_<_};
 ghost use lib.ListN.{length, set};
@@ -15,6 +17,7 @@ ghost use Rattle.laws.specs.Table.{table};
 ghost use Rattle.channel.specs.Channel.{channelCount};
 ghost use Rattle.reading.specs.Reading.{markOf, numberOf, marksOf, numbersOf, noMark, noNumber};
 ghost use Rattle.reading.specs.Ready.{Ready};
+ghost use Rattle.reading.specs.Plan.{Planned};
 ghost use Rattle.reading.specs.declared.Active.the-variants as active;
 
 fn clear_marks(out: &mut [u8])
@@ -49,8 +52,66 @@ fn put(marks: &mut [u8], numbers: &mut [f32], c: usize, r: Reading)
     numbers[c] = number_of(r);
 }
 
-// The pass, over cleared tables, with animation a active at frame x.
+// The pass over the planned targets, over cleared tables, at frame x. Only the contract speaks of the book.
 fn sweep(
+    s: &[u8],
+    b: &[u8],
+    p: Plan,
+    channels: &[u16],
+    frames: &[f32],
+    values: &[f32],
+    slopes: &[f32],
+    x: f32,
+    marks: &mut [u8],
+    numbers: &mut [f32],
+)
+    requires { ⌜ Ready (now s) (now b) (now frames) (now values) (now slopes) × Planned (now s) (now b) p (now channels) ⌝ }
+    requires { ⌜ (now marks ≡ table (channelCount (now b)) noMark) × (now numbers ≡ table (channelCount (now b)) noNumber) ⌝ }
+    ensures { λ _. ⌜ now (marks .exit) ≡ marksOf (now (s .entry)) (now (b .entry)) (now (frames .entry)) (now (values .entry)) (now (slopes .entry)) (active.At (p .animation) x) ⌝ }
+    ensures { λ _. ⌜ now (numbers .exit) ≡ numbersOf (now (s .entry)) (now (b .entry)) (now (frames .entry)) (now (values .entry)) (now (slopes .entry)) (active.At (p .animation) x) ⌝ }
+{
+    let base = sheet::targets_at(s);
+    let textures = sheet::texture_count(s);
+    let mut next = p.from;
+    while next < p.to {
+        let t = next;
+        next += 1;
+        let c = channels[t];
+        if c == NO_CHANNEL {
+            continue;
+        }
+        let row = sheet::target_at(s, base + t * sheet::TARGET_BYTES);
+        let v = row_value(frames, values, slopes, x, row);
+        let r = read_as(family_of(row.code), v, textures);
+        put(marks, numbers, c as usize, r);
+    }
+}
+
+// The row of one frame: every channel of the book at frame x, by a plan. Only the contract speaks of the book.
+pub fn read_row(
+    s: &[u8],
+    b: &[u8],
+    p: Plan,
+    channels: &[u16],
+    frames: &[f32],
+    values: &[f32],
+    slopes: &[f32],
+    x: f32,
+    marks: &mut [u8],
+    numbers: &mut [f32],
+)
+    requires { ⌜ Ready (now s) (now b) (now frames) (now values) (now slopes) × Planned (now s) (now b) p (now channels) ⌝ }
+    requires { ⌜ (length (now marks) ≡ channelCount (now b)) × (length (now numbers) ≡ channelCount (now b)) ⌝ }
+    ensures { λ _. ⌜ now (marks .exit) ≡ marksOf (now (s .entry)) (now (b .entry)) (now (frames .entry)) (now (values .entry)) (now (slopes .entry)) (active.At (p .animation) x) ⌝ }
+    ensures { λ _. ⌜ now (numbers .exit) ≡ numbersOf (now (s .entry)) (now (b .entry)) (now (frames .entry)) (now (values .entry)) (now (slopes .entry)) (active.At (p .animation) x) ⌝ }
+{
+    clear_marks(marks);
+    clear_numbers(numbers);
+    sweep(s, b, p, channels, frames, values, slopes, x, marks, numbers);
+}
+
+// A plan and its one row.
+fn read_active(
     s: &[u8],
     b: &[u8],
     frames: &[f32],
@@ -62,32 +123,24 @@ fn sweep(
     numbers: &mut [f32],
 )
     requires { ⌜ Ready (now s) (now b) (now frames) (now values) (now slopes) ⌝ }
-    requires { ⌜ (now marks ≡ table (channelCount (now b)) noMark) × (now numbers ≡ table (channelCount (now b)) noNumber) ⌝ }
+    requires { ⌜ (length (now marks) ≡ channelCount (now b)) × (length (now numbers) ≡ channelCount (now b)) ⌝ }
     ensures { λ _. ⌜ now (marks .exit) ≡ marksOf (now (s .entry)) (now (b .entry)) (now (frames .entry)) (now (values .entry)) (now (slopes .entry)) (active.At a x) ⌝ }
     ensures { λ _. ⌜ now (numbers .exit) ≡ numbersOf (now (s .entry)) (now (b .entry)) (now (frames .entry)) (now (values .entry)) (now (slopes .entry)) (active.At a x) ⌝ }
 {
-    let n = sheet::target_count(s);
-    let base = sheet::targets_at(s);
-    let textures = sheet::texture_count(s);
-    let mut held = none_held();
-    let mut next = 0;
-    while next < n {
-        let row = sheet::target_at(s, base + next * sheet::TARGET_BYTES);
-        next += 1;
-        if row.content != held.content {
-            held = held_for(s, b, a, row.content);
-        }
-        let reached = held.reached;
-        let Found::At(c) = row_channel(b, reached, row) else {
-            continue;
-        };
-        put(
-            marks,
-            numbers,
-            c,
-            row_reading(frames, values, slopes, x, row, textures),
-        );
-    }
+    let mut channels = [0u16; MOST_TARGETS];
+    let p = plan_of(s, b, a, &mut channels);
+    read_row(
+        s,
+        b,
+        p,
+        &channels,
+        frames,
+        values,
+        slopes,
+        x,
+        marks,
+        numbers,
+    );
 }
 
 // The Rust's AnimationState::evaluate, over every channel of the book.
@@ -106,9 +159,10 @@ pub fn read_all(
     ensures { λ _. ⌜ now (marks .exit) ≡ marksOf (now (s .entry)) (now (b .entry)) (now (frames .entry)) (now (values .entry)) (now (slopes .entry)) active ⌝ }
     ensures { λ _. ⌜ now (numbers .exit) ≡ numbersOf (now (s .entry)) (now (b .entry)) (now (frames .entry)) (now (values .entry)) (now (slopes .entry)) active ⌝ }
 {
-    clear_marks(marks);
-    clear_numbers(numbers);
-    if let Active::At(a, x) = active {
-        sweep(s, b, frames, values, slopes, a, x, marks, numbers);
-    }
+    let Active::At(a, x) = active else {
+        clear_marks(marks);
+        clear_numbers(numbers);
+        return;
+    };
+    read_active(s, b, frames, values, slopes, a, x, marks, numbers);
 }

@@ -3,7 +3,9 @@ use crate::over::or_number;
 use crate::over::or_shown;
 use channel::Reached;
 use channel::held_for;
+use channel::material_index;
 use channel::none_held;
+use channel::pane_index;
 use laws::Found;
 use reading::Active;
 use reading::Reading;
@@ -19,10 +21,14 @@ ghost use Rattle.book.specs.Sizes.{paneCount};
 ghost use Rattle.book.specs.Rows.{paneRow};
 ghost use Rattle.book.specs.Checked.{CheckedBook};
 ghost use Rattle.channel.specs.Channel.{visibleChannel};
+ghost use Rattle.channel.specs.Held.{Searched};
 ghost use Rattle.reading.specs.Ready.{Ready};
 ghost use Rattle.reading.specs.declared.Active.the-variants as active;
 ghost use Rattle.resolve.specs.Resolve.{orNumber, orShown, bookAlpha};
 ghost use Rattle.resolve.specs.Own.{bitOf, bookBit, ownBits, ownAlphas, ownChannel, paneIn, putIf};
+
+// From so many contents of a sheet on an index of the labels pays, by measurement. Few materials are searched for.
+const MANY: usize = 32;
 
 // Shown is 1, hidden 0.
 pub fn bit(b: bool) -> u8
@@ -88,6 +94,8 @@ fn put_own(b: &[u8], p: usize, k: usize, r: Reading, visible: &mut [u8], alpha: 
 fn sweep_own(
     s: &[u8],
     b: &[u8],
+    panes: &[u8],
+    materials: &[u8],
     frames: &[f32],
     values: &[f32],
     slopes: &[f32],
@@ -96,7 +104,7 @@ fn sweep_own(
     visible: &mut [u8],
     alpha: &mut [f32],
 )
-    requires { ⌜ Ready (now s) (now b) (now frames) (now values) (now slopes) ⌝ }
+    requires { ⌜ Ready (now s) (now b) (now frames) (now values) (now slopes) × Searched (now b) (now panes) (now materials) ⌝ }
     requires { ⌜ (now visible ≡ table (paneCount (now b)) (bookBit (now b))) × (now alpha ≡ table (paneCount (now b)) (bookAlpha (now b))) ⌝ }
     ensures { λ _. ⌜ now (visible .exit) ≡ ownBits (now (s .entry)) (now (b .entry)) (now (frames .entry)) (now (values .entry)) (now (slopes .entry)) (active.At a x) ⌝ }
     ensures { λ _. ⌜ now (alpha .exit) ≡ ownAlphas (now (s .entry)) (now (b .entry)) (now (frames .entry)) (now (values .entry)) (now (slopes .entry)) (active.At a x) ⌝ }
@@ -113,7 +121,7 @@ fn sweep_own(
             continue;
         };
         if row.content != held.content {
-            held = held_for(s, b, a, row.content);
+            held = held_for(s, b, panes, materials, a, row.content);
         }
         let reached = held.reached;
         let Found::At(p) = pane_in(reached) else {
@@ -142,6 +150,20 @@ pub fn own_rows(
 {
     book_rows(b, visible, alpha);
     if let Active::At(a, x) = active {
-        sweep_own(s, b, frames, values, slopes, a, x, visible, alpha);
+        let panes = pane_index(b, sheet::content_count(s) >= MANY);
+        let materials = material_index(b, false);
+        sweep_own(
+            s,
+            b,
+            &panes,
+            &materials,
+            frames,
+            values,
+            slopes,
+            a,
+            x,
+            visible,
+            alpha,
+        );
     }
 }

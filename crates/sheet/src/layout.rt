@@ -10,10 +10,11 @@ use field::NAME_BYTES;
 use field::byte_at;
 use field::u16_at;
 ghost use mathlib.Core.Path.{_≡_};
-ghost use Prim.Native.Nat.{_+_, _-_, _*_, _<_, _≤_};
+ghost use Prim.Native.Nat.{_+_, _*_, _<_, _≤_};
 ghost use lib.ListN.{length};
 ghost use Rattle.laws.specs.Below.{allBelow};
 ghost use Rattle.sheet.specs.Sizes.{headBytes, animationBytes, contentBytes, targetBytes, animationsAt};
+ghost use Rattle.sheet.specs.Tested.{prior, animationOf, contentOf};
 ghost use Rattle.sheet.specs.Sheet.{sizesOk, lengthOk, animationOk, contentOk, targetFrom, targetsOk, sheetOk};
 
 fn sizes_ok(s: &[u8]) -> bool
@@ -67,32 +68,25 @@ fn animations_ok(s: &[u8], n: usize) -> bool
     true
 }
 
-// The row before i, which for row 0 is row 0 itself.
-fn before(i: usize) -> usize
-    ensures { λ r. ⌜ r ≡ i - 1 ⌝ }
-{
-    if i == 0 { 0 } else { i - 1 }
-}
-
-fn content_ok(s: &[u8], base: usize, a: usize, i: usize) -> bool
-    requires { ⌜ base + i * contentBytes + contentBytes ≤ length (now s) ⌝ }
+// `last` is the animation of the row before, and 0 at first.
+fn content_ok(s: &[u8], base: usize, a: usize, i: usize, last: usize) -> bool
+    requires { ⌜ (base + i * contentBytes + contentBytes ≤ length (now s)) × (last ≡ prior (animationOf (now s) base) i) ⌝ }
     ensures { λ r. ⌜ r ≡ contentOk (now (s .entry)) base a i ⌝ }
 {
     let at = base + i * CONTENT_BYTES;
-    let own = byte_at(s, at);
-    (byte_at(s, at + 1) <= 4)
-        & (u16_at(s, at + 2) == 0)
-        & (own < a)
-        & (byte_at(s, base + before(i) * CONTENT_BYTES) <= own)
+    let animation = byte_at(s, at);
+    (byte_at(s, at + 1) <= 4) & (u16_at(s, at + 2) == 0) & (animation < a) & (last <= animation)
 }
 
 fn contents_ok(s: &[u8], base: usize, a: usize, n: usize) -> bool
     requires { ⌜ base + n * contentBytes ≤ length (now s) ⌝ }
     ensures { λ r. ⌜ r ≡ allBelow n (contentOk (now (s .entry)) base a) ⌝ }
 {
+    let mut last = 0;
     let mut i = 0;
     while i < n {
-        if content_ok(s, base, a, i) {
+        if content_ok(s, base, a, i, last) {
+            last = byte_at(s, base + i * CONTENT_BYTES);
             i += 1;
         } else {
             return false;
@@ -101,17 +95,14 @@ fn contents_ok(s: &[u8], base: usize, a: usize, n: usize) -> bool
     true
 }
 
-fn target_from(s: &[u8], base: usize, c: usize, i: usize, f: usize) -> bool
-    requires { ⌜ base + i * targetBytes + targetBytes ≤ length (now s) ⌝ }
+// `last` is the content of the row before, and 0 at first. Curve and padding are one number, at most 2.
+fn target_from(s: &[u8], base: usize, c: usize, i: usize, f: usize, last: usize) -> bool
+    requires { ⌜ (base + i * targetBytes + targetBytes ≤ length (now s)) × (last ≡ prior (contentOf (now s) base) i) ⌝ }
     ensures { λ r. ⌜ r ≡ targetFrom (now (s .entry)) base c i f ⌝ }
 {
     let at = base + i * TARGET_BYTES;
-    let own = u16_at(s, at);
-    (byte_at(s, at + 8) <= 2)
-        & (byte_at(s, at + 9) == 0)
-        & (own < c)
-        & (u16_at(s, base + before(i) * TARGET_BYTES) <= own)
-        & (u16_at(s, at + 10) == f)
+    let content = u16_at(s, at);
+    (u16_at(s, at + 8) <= 2) & (content < c) & (last <= content) & (u16_at(s, at + 10) == f)
 }
 
 // `sum` is the sum of the earlier counts.
@@ -120,10 +111,13 @@ fn targets_ok(s: &[u8], base: usize, c: usize, n: usize, k: usize) -> bool
     ensures { λ r. ⌜ r ≡ targetsOk (now (s .entry)) base c n k ⌝ }
 {
     let mut sum = 0usize;
+    let mut last = 0;
     let mut i = 0;
     while i < n {
-        if target_from(s, base, c, i, sum) {
-            sum += u16_at(s, base + i * TARGET_BYTES + 12);
+        if target_from(s, base, c, i, sum, last) {
+            let at = base + i * TARGET_BYTES;
+            sum += u16_at(s, at + 12);
+            last = u16_at(s, at);
             i += 1;
         } else {
             return false;

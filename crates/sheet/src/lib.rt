@@ -13,6 +13,7 @@ pub use rows::TARGET_BYTES;
 pub use rows::Target;
 pub use rows::animation_count;
 pub use rows::animation_row;
+pub use rows::content_count;
 pub use rows::content_row;
 pub use rows::contents_at;
 pub use rows::key_count;

@@ -55,6 +55,13 @@ pub fn animation_count(s: &[u8]) -> usize
     u16_at(s, 0)
 }
 
+pub fn content_count(s: &[u8]) -> usize
+    requires { ⌜ headBytes ≤ length (now s) ⌝ }
+    ensures { λ r. ⌜ r ≡ contentCount (now (s .entry)) ⌝ }
+{
+    u16_at(s, 2)
+}
+
 pub fn target_count(s: &[u8]) -> usize
     requires { ⌜ headBytes ≤ length (now s) ⌝ }
     ensures { λ r. ⌜ r ≡ targetCount (now (s .entry)) ⌝ }

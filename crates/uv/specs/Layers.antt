@@ -1,14 +1,14 @@
 -- What the UV block holds, pair by pair: the equation that a reader of document 01, "UVs and corners", expects. `applied` goes layer by layer, as the Rust does.
-use Prim.Native.Nat.{ℕ, zero, suc, _<_}
-use mathlib.Core.Path.{_≡_, refl, ap, _∙_}
+use Prim.Native.Nat.{ℕ, zero, suc, _+_, _*_, _/_, _%_, _<_}
+use mathlib.Core.Path.{_≡_, refl, ap, subst, _∙_}
 use mathlib.Core.Bool.{Bool, true, false, cond}
 use mathlib.Core.List.{List, []}
 use native.Mathlib.Omega.{arith}
-use lib.ListN.{length, getD, length-set}
+use lib.ListN.{length, getD, set, length-set}
 use lib.Seq.{getD-set-same, getD-set-other}
-use lib.Ieee.{Float}
-use Rattle.laws.specs.Table.{table-at, table-length}
-use Rattle.uv.specs.Uvs.{Pair, Block, layerUv, cornerUvs, baseUvs, hasSrt, srtAt, transformOf, cornerDone, layerDone, layerApplied, applied}
+use lib.Ieee.{Float, nan}
+use Rattle.laws.specs.Table.{table-at, table-length, Filled, filled-more}
+use Rattle.uv.specs.Uvs.{Pair, Block, layerUv, cornerUvs, baseUvs, hasSrt, srtAt, transformOf, cornerDone, layerDone, layerApplied, applied, blockNumbers, numberOf}
 
 -- the pair of corner v and layer l
 abbrev pub pairAt : Block → ℕ → ℕ → Pair
@@ -95,3 +95,16 @@ base-pair ls v l h k = ap (λ (c : List Pair). getD c l []) (table-at 4 v (corne
 -- So each pair of the answer is the layer's, or the unit square's, under the layer's SRT.
 pub uvs-pair : (ls ss : List Float) (v l : ℕ) → v < 4 → l < 3 → pairAt (applied (baseUvs ls) ss) v l ≡ transformed ss l (layerUv ls l v)
 uvs-pair ls ss v l h k = applied-pair (baseUvs ls) ss (base-whole ls) v l h k ∙ ap (transformed ss l) (base-pair ls v l h k)
+
+-- Pair i of the block, counted as its numbers are, is that of corner i / 3 and layer i % 3.
+module _ (b : Block) (i : ℕ) where
+  pair-number : (k n : ℕ) → k < 2 → n ≡ i * 2 + k → getD (pairAt b (i / 3) (i % 3)) k nan ≡ numberOf b n
+  unfolding numberOf
+  pair-number k n h e = let v : n / 6 ≡ i / 3 = omega arith in let l : n % 6 / 2 ≡ i % 3 = omega arith in let m : n % 2 ≡ k = omega arith in rw (v, l, m)
+
+  -- so its two numbers, stored there, fill the output further
+  pub pair-stored : {out : List Float} {x y : Float} → Filled blockNumbers (numberOf b) out (i * 2) → i * 2 < blockNumbers → x ≡ getD (pairAt b (i / 3) (i % 3)) 0 nan → y ≡ getD (pairAt b (i / 3) (i % 3)) 1 nan
+      → Filled blockNumbers (numberOf b) (set (set out (i * 2) x) (i * 2 + 1) y) ((i + 1) * 2)
+  pair-stored {out} {x} {y} h l p q =
+      subst (Filled blockNumbers (numberOf b) (set (set out (i * 2) x) (i * 2 + 1) y)) (omega arith)
+      (filled-more (filled-more h l (p ∙ pair-number 0 (i * 2) (omega arith) (omega arith))) (omega arith) (q ∙ pair-number 1 (i * 2 + 1) (omega arith) (omega arith)))

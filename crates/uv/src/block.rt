@@ -6,14 +6,17 @@ use float::Vector2;
 ghost use mathlib.Core.Path.{_≡_};
 ghost use Prim.Native.Nat.{_+_, _*_, _<_, _≤_};
 ghost use lib.ListN.{length};
-ghost use Rattle.uv.specs.Uvs.{srtNumbers, blockNumbers, moved, srtTurn, layerUv, baseUvs, srtAt, layerDone, layerApplied, applied, numbers};
+ghost use Rattle.uv.specs.Uvs.{srtNumbers, blockNumbers, moved, srtTurn, baseUvs, srtAt, applied, numbers};
+ghost use Rattle.uv.specs.Sets.{lentSet, setOf, setTransformed, withSet};
 
-// How many numbers a lent layer has, a lent SRT, and the block.
+// How many numbers a lent layer has, a lent SRT, and the block; and how many pairs the block has.
 pub const LAYER: usize = 8;
 
 pub const SRT: usize = 5;
 
 pub const BLOCK: usize = 24;
+
+const PAIRS: usize = BLOCK / 2;
 
 // The Rust's transform_uv_srt: a pair scaled and turned about (0.5, 0.5), then moved. `turn` is the sine and cosine of the SRT's angle, made once for a layer.
 fn transform_uv_srt(srt: Srt, turn: SinCos, uv: [f32; 2]) -> [f32; 2]
@@ -35,53 +38,44 @@ fn srt_turn(srt: Srt) -> SinCos
     float::sin_cos(float::radians(srt.rotate))
 }
 
-// Corner v of one layer: what is lent, or the unit square's where the layer is missing.
-fn layer_uv(layers: &[f32], layer: usize, v: usize) -> [f32; 2]
-    requires { ⌜ (layer < 3) × (v < 4) ⌝ }
-    ensures { λ r. ⌜ r ≡ layerUv (now (layers .entry)) layer v ⌝ }
+// A layer's UV set, its pair at each corner: what is lent, or the unit square where the layer is missing. One test for the four pairs, so that
+// they are read together.
+fn get_uv_set(layers: &[f32], layer: usize) -> [[f32; 2]; 4]
+    requires { ⌜ layer < 3 ⌝ }
+    ensures { λ r. ⌜ r ≡ lentSet (now (layers .entry)) layer ⌝ }
 {
-    if layer * LAYER + LAYER <= layers.len() {
-        let at = layer * LAYER + v * 2;
-        return [layers[at], layers[at + 1]];
+    let at = layer * LAYER;
+    if at + LAYER <= layers.len() {
+        let a = [layers[at], layers[at + 1]];
+        let b = [layers[at + 2], layers[at + 3]];
+        let c = [layers[at + 4], layers[at + 5]];
+        let d = [layers[at + 6], layers[at + 7]];
+        return [a, b, c, d];
     }
-    let square = [[0.0, 0.0], [1.0, 0.0], [0.0, 1.0], [1.0, 1.0]];
-    square[v]
+    [[0.0, 0.0], [1.0, 0.0], [0.0, 1.0], [1.0, 1.0]]
 }
 
 // The block before any SRT.
 pub fn compute_uvs(layers: &[f32]) -> [[[f32; 2]; 3]; 4]
     ensures { λ r. ⌜ r ≡ baseUvs (now (layers .entry)) ⌝ }
 {
-    let mut uvs = [[[0.0f32; 2]; 3]; 4];
-    let mut v = 0;
-    while v < 4 {
-        let a = layer_uv(layers, 0, v);
-        let b = layer_uv(layers, 1, v);
-        let c = layer_uv(layers, 2, v);
-        let corner = [a, b, c];
-        uvs[v] = corner;
-        v += 1;
-    }
-    uvs
+    let a = get_uv_set(layers, 0);
+    let b = get_uv_set(layers, 1);
+    let c = get_uv_set(layers, 2);
+    [
+        [a[0], b[0], c[0]],
+        [a[1], b[1], c[1]],
+        [a[2], b[2], c[2]],
+        [a[3], b[3], c[3]],
+    ]
 }
 
-// The block with one layer of each corner transformed. The sine and cosine are made once.
-fn apply_layer(srt: Srt, layer: usize, uvs: [[[f32; 2]; 3]; 4]) -> [[[f32; 2]; 3]; 4]
+// The UV set of one layer of the block.
+fn layer_set(uvs: [[[f32; 2]; 3]; 4], layer: usize) -> [[f32; 2]; 4]
     requires { ⌜ layer < 3 ⌝ }
-    ensures { λ r. ⌜ r ≡ layerDone srt layer uvs ⌝ }
+    ensures { λ r. ⌜ r ≡ setOf uvs layer ⌝ }
 {
-    let turn = srt_turn(srt);
-    let mut out = uvs;
-    let mut v = 0;
-    while v < 4 {
-        let mut corner = uvs[v];
-        let uv = corner[layer];
-        let pair = transform_uv_srt(srt, turn, uv);
-        corner[layer] = pair;
-        out[v] = corner;
-        v += 1;
-    }
-    out
+    [uvs[0][layer], uvs[1][layer], uvs[2][layer], uvs[3][layer]]
 }
 
 // SRT number i, which is given.
@@ -105,35 +99,62 @@ fn srt_at(srts: &[f32], i: usize) -> Srt
     }
 }
 
-// The block with one layer transformed where it has an SRT.
-fn apply_srt(srts: &[f32], layer: usize, uvs: [[[f32; 2]; 3]; 4]) -> [[[f32; 2]; 3]; 4]
+// A layer's UV set, transformed where the layer has an SRT. The sine and cosine are made once.
+fn transform_set(srts: &[f32], layer: usize, set: [[f32; 2]; 4]) -> [[f32; 2]; 4]
     requires { ⌜ layer < 3 ⌝ }
-    ensures { λ r. ⌜ r ≡ layerApplied (now (srts .entry)) layer uvs ⌝ }
+    ensures { λ r. ⌜ r ≡ setTransformed (now (srts .entry)) layer set ⌝ }
 {
     if layer * SRT + SRT <= srts.len() {
         let srt = srt_at(srts, layer);
-        return apply_layer(srt, layer, uvs);
+        let turn = srt_turn(srt);
+        let a = transform_uv_srt(srt, turn, set[0]);
+        let b = transform_uv_srt(srt, turn, set[1]);
+        let c = transform_uv_srt(srt, turn, set[2]);
+        let d = transform_uv_srt(srt, turn, set[3]);
+        return [a, b, c, d];
     }
-    uvs
+    set
 }
 
-// Layer by layer; a fourth and later SRT are not looked at.
+// The block with this UV set as one of its layers.
+fn with_set(uvs: [[[f32; 2]; 3]; 4], layer: usize, set: [[f32; 2]; 4]) -> [[[f32; 2]; 3]; 4]
+    requires { ⌜ layer < 3 ⌝ }
+    ensures { λ r. ⌜ r ≡ withSet uvs layer set ⌝ }
+{
+    let mut a = uvs[0];
+    a[layer] = set[0];
+    let mut b = uvs[1];
+    b[layer] = set[1];
+    let mut c = uvs[2];
+    c[layer] = set[2];
+    let mut d = uvs[3];
+    d[layer] = set[3];
+    [a, b, c, d]
+}
+
+// Layer by layer; a fourth and later SRT are not looked at. The layers are written out, not counted, so that the compiler keeps the block in
+// registers: stored at a counted layer, it would be read back by wider loads, which wait for the stores.
 pub fn apply_srt_to_uvs(base: [[[f32; 2]; 3]; 4], srts: &[f32]) -> [[[f32; 2]; 3]; 4]
     ensures { λ r. ⌜ r ≡ applied base (now (srts .entry)) ⌝ }
 {
-    let first = apply_srt(srts, 0, base);
-    let second = apply_srt(srts, 1, first);
-    apply_srt(srts, 2, second)
+    let a = transform_set(srts, 0, layer_set(base, 0));
+    let first = with_set(base, 0, a);
+    let b = transform_set(srts, 1, layer_set(first, 1));
+    let second = with_set(first, 1, b);
+    let c = transform_set(srts, 2, layer_set(second, 2));
+    with_set(second, 2, c)
 }
 
-// The block's numbers in order.
+// The block's numbers in order, by pairs: so few turns are unrolled, and need no block in memory.
 pub fn store(uvs: [[[f32; 2]; 3]; 4], out: &mut [f32])
     requires { ⌜ length (now out) ≡ blockNumbers ⌝ }
     ensures { λ _. ⌜ now (out .exit) ≡ numbers uvs ⌝ }
 {
     let mut i = 0;
-    while i < BLOCK {
-        out[i] = uvs[i / 6][i % 6 / 2][i % 2];
+    while i < PAIRS {
+        let pair = uvs[i / 3][i % 3];
+        out[i * 2] = pair[0];
+        out[i * 2 + 1] = pair[1];
         i += 1;
     }
 }

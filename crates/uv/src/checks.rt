@@ -10,18 +10,17 @@ ghost use mathlib.Core.Path.{_≡_};
 ghost use Rattle.laws.specs.Rows.{declines};
 ghost use Rattle.uv.specs.Declined.{allFinite, anglesPass, uvsTable};
 
-// Every number of the list is finite.
+// Every number of the list is finite. No early way out: the loop then goes several at a time.
 fn all_finite(s: &[f32]) -> bool
     ensures { λ r. ⌜ r ≡ allFinite (now (s .entry)) ⌝ }
 {
+    let mut ok = true;
     let mut i = 0;
     while i < s.len() {
-        if !float::is_finite(s[i]) {
-            return false;
-        }
+        ok = ok & float::is_finite(s[i]);
         i += 1;
     }
-    true
+    ok
 }
 
 // The angle of every SRT of the list passes.

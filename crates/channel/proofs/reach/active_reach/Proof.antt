@@ -13,11 +13,11 @@ content-reach-requires c κs = search needs
 
 returns : tie.Need-returns
 unfolding activeReach
-returns c = rw (lt-ltb _ _ (c .before .before .before .before .before .before .pre .1 .1), ← c .before .before .before .content-row .ensures, eq-eqb _ _ (c .before .if1 .taken)) (c .content-reach .ensures)
+returns c = rw (lt-ltb _ _ (c .before .before .before .before .before .before .before .before .pre .1 .1), ← c .before .before .before .content-row .ensures, eq-eqb _ _ (c .before .if1 .taken)) (c .content-reach .ensures)
 
 returns-2 : tie.Need-returns-2
 unfolding activeReach
-returns-2 c = rw (lt-ltb _ _ (c .before .before .before .before .before .pre .1 .1), ← c .before .before .content-row .ensures, ne-eqb _ _ (c .if1 .left))
+returns-2 c = rw (lt-ltb _ _ (c .before .before .before .before .before .before .before .pre .1 .1), ← c .before .before .content-row .ensures, ne-eqb _ _ (c .if1 .left))
 
 pub active-reach-spec : {M : Type 1} → statement M
 active-reach-spec =

@@ -1,5 +1,7 @@
 -- The content's type says which of the book's names are searched, and both tables lie within the book.
 use borrow.Author.Tests.{eq-eqb, ne-eqb}
+use native.Mathlib.Omega.{arith}
+use Rattle.book.specs.Checked.{label-fields, name-fields}
 use Rattle.channel.specs.Channel.{contentReach, paneNamed, materialNamed}
 use borrow.Author.Needs.{needs}
 use Rattle.channel.proofs.reach.content_reach.Statement.{statement}
@@ -23,8 +25,8 @@ add-at-2 c = search needs
 pane-count-requires : tie.Need-pane-count-requires
 pane-count-requires c κs = search needs
 
-find-name-requires : tie.Need-find-name-requires
-find-name-requires c κs = search needs
+find-indexed-requires : tie.Need-find-indexed-requires
+find-indexed-requires c κs = let p = c .before .before .before .before .before .before .before .before .before .before .pre in let w = p .1 .0 in rw (c .pane-count .ensures) ((label-fields (w .book), w .book .labelled), (w .labels, omega (arith, p .0 .long, c .before .before .before .before .contents-at .ensures)))
 
 as-pane-requires : tie.Need-as-pane-requires
 as-pane-requires c κs = search needs
@@ -39,8 +41,8 @@ materials-at-requires c κs = search needs
 material-count-requires : tie.Need-material-count-requires
 material-count-requires c κs = search needs
 
-find-name-requires-2 : tie.Need-find-name-requires-2
-find-name-requires-2 c κs = search needs
+find-indexed-requires-2 : tie.Need-find-indexed-requires-2
+find-indexed-requires-2 c κs = let p = c .before .before .before .before .before .before .before .before .before .before .before .before .before .pre in let w = p .1 .0 in rw (c .material-count .ensures, c .before .materials-at .ensures) ((name-fields (w .book), w .book .named), (w .names, omega (arith, p .0 .long, c .before .before .before .before .before .before .before .contents-at .ensures)))
 
 as-material-requires : tie.Need-as-material-requires
 as-material-requires c κs = search needs
@@ -63,12 +65,12 @@ content-reach-spec =
     add-at
     add-at-2
     pane-count-requires
-    find-name-requires
+    find-indexed-requires
     as-pane-requires
     returns
     materials-at-requires
     material-count-requires
-    find-name-requires-2
+    find-indexed-requires-2
     as-material-requires
     returns-2
     returns-3)

@@ -15,32 +15,26 @@ abbrev μ-loop : tie.MeasureT-loop
 loop-holds : tie.Need-loop-holds Inv-loop μ-loop
 loop-holds c = joined-none _ _
 
-mul-is-finite : tie.Need-mul-is-finite Inv-loop μ-loop
-mul-is-finite c = omega arith
+mul-all-finite : tie.Need-mul-all-finite Inv-loop μ-loop
+mul-all-finite c = omega arith
 
-shared-slice-read-is-finite : tie.Need-shared-slice-read-is-finite Inv-loop μ-loop
-shared-slice-read-is-finite c = omega arith
+shared-slice-read-all-finite : tie.Need-shared-slice-read-all-finite Inv-loop μ-loop
+shared-slice-read-all-finite c = omega arith
 
-is-finite-requires : tie.Need-is-finite-requires Inv-loop μ-loop
-is-finite-requires c κs = omega arith
+mul-all-finite-2 : tie.Need-mul-all-finite-2 Inv-loop μ-loop
+mul-all-finite-2 c = omega arith
 
-mul-is-finite-2 : tie.Need-mul-is-finite-2 Inv-loop μ-loop
-mul-is-finite-2 c = omega arith
+shared-slice-read-all-finite-2 : tie.Need-shared-slice-read-all-finite-2 Inv-loop μ-loop
+shared-slice-read-all-finite-2 c = omega arith
 
-shared-slice-read-is-finite-2 : tie.Need-shared-slice-read-is-finite-2 Inv-loop μ-loop
-shared-slice-read-is-finite-2 c = omega arith
+mul-all-finite-3 : tie.Need-mul-all-finite-3 Inv-loop μ-loop
+mul-all-finite-3 c = omega arith
 
-is-finite-requires-2 : tie.Need-is-finite-requires-2 Inv-loop μ-loop
-is-finite-requires-2 c κs = omega arith
+shared-slice-read-all-finite-3 : tie.Need-shared-slice-read-all-finite-3 Inv-loop μ-loop
+shared-slice-read-all-finite-3 c = omega arith
 
-mul-is-finite-3 : tie.Need-mul-is-finite-3 Inv-loop μ-loop
-mul-is-finite-3 c = omega arith
-
-shared-slice-read-is-finite-3 : tie.Need-shared-slice-read-is-finite-3 Inv-loop μ-loop
-shared-slice-read-is-finite-3 c = omega arith
-
-is-finite-requires-3 : tie.Need-is-finite-requires-3 Inv-loop μ-loop
-is-finite-requires-3 c κs = omega arith
+all-finite-requires : tie.Need-all-finite-requires Inv-loop μ-loop
+all-finite-requires c κs = omega arith
 
 add-i : tie.Need-add-i Inv-loop μ-loop
 add-i c = omega arith
@@ -50,7 +44,7 @@ loop-less c = omega arith
 
 loop-again : tie.Need-loop-again Inv-loop μ-loop
 unfolding finiteKey
-loop-again c = joined-more (c .before .before .before .before .before .before .before .loop .inv) (omega arith) (cc)
+loop-again c = joined-more (c .before .before .before .before .before .loop .inv) (omega arith) (cc)
 
 returns : tie.Need-returns Inv-loop μ-loop
 returns c = joined-all (c .before .loop .inv) (omega arith)
@@ -62,15 +56,13 @@ finite-keys-spec =
     Inv-loop
     μ-loop
     loop-holds
-    mul-is-finite
-    shared-slice-read-is-finite
-    is-finite-requires
-    mul-is-finite-2
-    shared-slice-read-is-finite-2
-    is-finite-requires-2
-    mul-is-finite-3
-    shared-slice-read-is-finite-3
-    is-finite-requires-3
+    mul-all-finite
+    shared-slice-read-all-finite
+    mul-all-finite-2
+    shared-slice-read-all-finite-2
+    mul-all-finite-3
+    shared-slice-read-all-finite-3
+    all-finite-requires
     add-i
     loop-less
     loop-again

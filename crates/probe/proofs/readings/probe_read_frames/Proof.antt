@@ -1,65 +1,47 @@
--- `probe_read_frames` stays inside its slices. The checks once and then `times` whole readings at frames that lie a step apart, as for a table of frames.
-use Prim.Native.Nat.{_-_}
-use mathlib.Core.Path.{_≡_, sym, _∙_}
+-- The checks that pass are what a plan and its rows ask.
+use borrow.Author.Tests.{not-false}
+use native.Mathlib.Omega.{arith}
 use borrow.Author.Needs.{needs}
-use borrow.Author.Tests.{not-true, not-false}
-use lib.ListN.{length}
 use Rattle.probe.proofs.readings.probe_read_frames.Statement.{statement}
 use Rattle.probe.proofs.readings.probe_read_frames.Tie as tie
 
-abbrev Inv-loop : tie.InvT-loop
-Inv-loop s b frames values slopes animation frame step times marks₀ numbers₀ x₀ k₀ marks numbers x k = (length marks ≡ length marks₀) × (length numbers ≡ length numbers₀)
-
-abbrev μ-loop : tie.MeasureT-loop
-μ-loop s b frames values slopes animation frame step times marks₀ numbers₀ x₀ k₀ marks numbers x k = times - k
-
-can-read-all-requires : tie.Need-can-read-all-requires Inv-loop μ-loop
+can-read-all-requires : tie.Need-can-read-all-requires
 can-read-all-requires c κs = search needs
 
-returns : tie.Need-returns Inv-loop μ-loop
+returns : tie.Need-returns
 returns c = search needs
 
-loop-holds : tie.Need-loop-holds Inv-loop μ-loop
-loop-holds c = search needs
+slice-aggregate-plan-of : tie.Need-slice-aggregate-plan-of
+slice-aggregate-plan-of c = search needs
 
-read-all-requires : tie.Need-read-all-requires Inv-loop μ-loop
-read-all-requires c κs =
-    let at-loop = c .before .before .before in
-    let at-if1 = at-loop .before in
-    let at-can-read-all = at-if1 .before in
-    let h = at-loop .loop .inv in let k = at-can-read-all .can-read-all .ensures (not-false _ (at-if1 .if1 .left)) in (k .checked, (h .0 ∙ k .marked, h .1 ∙ k .numbered))
+plan-of-requires : tie.Need-plan-of-requires
+plan-of-requires c κs = let k = c .before .before .can-read-all .ensures (not-false _ (c .before .if1 .left)) in (k .checked .sheet, (k .checked .book, omega (arith, k .checked .sheet .sizes .targets)))
 
-add-k : tie.Need-add-k Inv-loop μ-loop
-add-k c = search needs
+slice-aggregate-read-rows : tie.Need-slice-aggregate-read-rows
+slice-aggregate-read-rows c = search needs
 
-loop-less : tie.Need-loop-less Inv-loop μ-loop
-loop-less c = search needs
+read-rows-requires : tie.Need-read-rows-requires
+read-rows-requires c κs = (c .before .before .before .before .before .before .before .can-read-all .ensures (not-false _ (c .before .before .before .before .before .before .if1 .left)), c .before .before .before .before .plan-of .ensures .1)
 
-loop-again : tie.Need-loop-again Inv-loop μ-loop
-loop-again c = search needs
-
-same-length : tie.Need-same-length Inv-loop μ-loop
+same-length : tie.Need-same-length
 same-length c = search needs
 
-same-length-2 : tie.Need-same-length-2 Inv-loop μ-loop
+same-length-2 : tie.Need-same-length-2
 same-length-2 c = search needs
 
-returns-2 : tie.Need-returns-2 Inv-loop μ-loop
+returns-2 : tie.Need-returns-2
 returns-2 c = search needs
 
 pub probe-read-frames-spec : {M : Type 1} → statement M
 probe-read-frames-spec =
     tie.close
     (tie.spec
-    Inv-loop
-    μ-loop
     can-read-all-requires
     returns
-    loop-holds
-    read-all-requires
-    add-k
-    loop-less
-    loop-again
+    slice-aggregate-plan-of
+    plan-of-requires
+    slice-aggregate-read-rows
+    read-rows-requires
     same-length
     same-length-2
     returns-2)

@@ -13,7 +13,7 @@ use Rattle.channel.specs.Channel.{targetChannel}
 use Rattle.channel.specs.Place.{placeOf, hits, place-hit, placed}
 use Rattle.channel.specs.declared.place.Place.{Place}
 use Rattle.reading.specs.Reading.{lastTarget}
-use Rattle.reading.proofs.Pass.{row-is, row-content}
+use Rattle.reading.proofs.Planning.{row-is, row-content}
 use Rattle.reading.proofs.single.last_target.Statement.{statement}
 use Rattle.reading.proofs.single.last_target.Tie as tie
 

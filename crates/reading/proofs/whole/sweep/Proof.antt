@@ -1,30 +1,20 @@
 -- After each target the tables are the whole reading of the targets so far.
 use Prim.Native.Nat.{_-_}
-use mathlib.Core.Logic.{⊎-elim}
-use mathlib.Core.Path.{_≡_, sym, _∙_}
+use mathlib.Core.Path.{refl}
 use borrow.Author.Needs.{needs}
-use denote.Ref.{now}
 use native.Mathlib.Omega.{arith}
-use Rattle.channel.specs.Held.{heldFor, holds-none, holds-is}
-use Rattle.reading.proofs.Pass.{Pass, row-is, row-content, row-ready, held-in, cleared, pass-none, pass-past, pass-at, pass-room, pass-all}
+use Rattle.reading.proofs.Planning.{row-is}
+use Rattle.reading.proofs.Pass.{row-ready, read-is, cleared, Pass, pass-none, pass-fits, pass-past, pass-at, pass-room, pass-all}
 use Rattle.reading.proofs.whole.sweep.Statement.{statement}
 use Rattle.reading.proofs.whole.sweep.Tie as tie
 
 abbrev Inv-loop : tie.InvT-loop
-Inv-loop s b frames values slopes a x marks₀ numbers₀ n base textures held₀ next₀ marks numbers held next =
-    Pass s b frames values slopes a x held marks numbers next
+Inv-loop s b p channels frames values slopes x marks₀ numbers₀ base textures next₀ marks numbers next =
+    Pass s b frames values slopes p x marks numbers next
 
 abbrev μ-loop : tie.MeasureT-loop
-μ-loop s b frames values slopes a x marks₀ numbers₀ n base textures held₀ next₀ marks numbers held next =
-    n - next
-
--- after the test, what is held is the target's content, with what it reaches
-held-now : (c : tie.Joined1 Inv-loop μ-loop) → let a = c .before .before .before .before .before .before .before .before .before .before .before .before .before .before .before .before .before .args in
-    c .if1 .held ≡ heldFor (now (a .s)) (now (a .b)) (a .a) (c .before .before .before .target-at .result .content)
-held-now c = ⊎-elim (λ w. w .2 ∙ w .1 .ensures) (λ w. w .1 ∙ holds-is (c .before .before .before .before .before .loop .inv .holds) (sym (w .0 .left))) (c .if1 .came)
-
-target-count-requires : tie.Need-target-count-requires Inv-loop μ-loop
-target-count-requires c κs = omega arith
+μ-loop s b p channels frames values slopes x marks₀ numbers₀ base textures next₀ marks numbers next =
+    p .to - next
 
 targets-at-requires : tie.Need-targets-at-requires Inv-loop μ-loop
 targets-at-requires c κs = omega arith
@@ -32,67 +22,66 @@ targets-at-requires c κs = omega arith
 texture-count-requires : tie.Need-texture-count-requires Inv-loop μ-loop
 texture-count-requires c κs = omega arith
 
-none-held-requires : tie.Need-none-held-requires Inv-loop μ-loop
-none-held-requires c κs = search needs
-
 loop-holds : tie.Need-loop-holds Inv-loop μ-loop
-loop-holds c = let p = c .before .before .before .before .before .before .before .before .before .before .before .pre in pass-none (rw (c .none-held .ensures) (holds-none _ _ _ (p .0 .sheet))) (p .1 .0) (p .1 .1)
-
-mul-target-at : tie.Need-mul-target-at Inv-loop μ-loop
-mul-target-at c = omega arith
-
-add-target-at : tie.Need-add-target-at Inv-loop μ-loop
-add-target-at c = omega arith
-
-target-at-requires : tie.Need-target-at-requires Inv-loop μ-loop
-target-at-requires c κs = omega arith
+loop-holds c = let p = c .before .before .before .before .before .before .before .before .before .before .pre in pass-none (p .0 .1 .run) refl (p .1 .0) (p .1 .1)
 
 add-next : tie.Need-add-next Inv-loop μ-loop
-add-next c = omega arith
+add-next c = let p = c .before .before .before .before .before .before .before .before .before .before .before .before .before .pre .0 in omega (arith, p .1 .run .within, p .0 .sheet .sizes .targets)
 
-held-for-requires : tie.Need-held-for-requires Inv-loop μ-loop
-held-for-requires c κs = let r = c .before .before .before .before .before .before .before .before .before .before .before .before .before .before .before .before .before .pre .0 in (r .sheet, (r .book, row-content _ _ (r .sheet) (omega arith) (row-is _ _ (c .before .before .before .before .before .before .before .before .targets-at .ensures) (c .before .before .before .target-at .ensures))))
+mul-c : tie.Need-mul-c Inv-loop μ-loop
+mul-c c = let p = c .before .before .before .before .before .before .before .before .before .before .before .before .before .pre .0 in omega (arith, p .1 .run .within, p .0 .sheet .sizes .targets)
 
-row-channel-requires : tie.Need-row-channel-requires Inv-loop μ-loop
-row-channel-requires c κs = (c .before .before .before .before .before .before .before .before .before .before .before .before .before .before .before .before .before .pre .0 .book, held-in _ _ _ (held-now c))
-
-enum-known-c : tie.Need-enum-known-c Inv-loop μ-loop
-enum-known-c c = search needs
-
-enum-told : tie.Need-enum-told Inv-loop μ-loop
-enum-told c = search needs
+shared-slice-read-c : tie.Need-shared-slice-read-c Inv-loop μ-loop
+shared-slice-read-c c = let p = c .before .before .before .before .before .before .before .before .before .before .before .before .before .before .pre .0 in omega (arith, p .1 .run .within, p .1 .held .room)
 
 loop-less : tie.Need-loop-less Inv-loop μ-loop
 loop-less c = omega arith
 
 loop-again : tie.Need-loop-again Inv-loop μ-loop
-loop-again c = let b = c .before .before .before .before .before .before in pass-past (b .before .before .loop .inv) (omega arith) (row-is _ _ (b .before .before .before .before .before .targets-at .ensures) (b .target-at .ensures)) (held-now (c .before .before .before)) (c .before .before .row-channel .ensures) (c .enum-told .given .1)
+loop-again c = let p = c .before .before .before .before .before .before .before .before .before .before .before .before .before .before .before .pre .0 in pass-past (p .1 .run) (c .before .before .before .before .loop .inv) (p .1 .held) (c .before .before .if1 .taken) refl (p .0 .book) (c .if2 .taken)
 
-row-reading-requires : tie.Need-row-reading-requires Inv-loop μ-loop
-row-reading-requires c κs = let b = c .before .before .before .before .before .before .before .before .before in row-ready _ _ (b .before .before .before .before .before .before .before .before .before .before .before .before .before .before .pre .0) (omega arith) (row-is _ _ (b .before .before .before .before .before .targets-at .ensures) (b .target-at .ensures))
+mul-target-at : tie.Need-mul-target-at Inv-loop μ-loop
+mul-target-at c = let p = c .before .before .before .before .before .before .before .before .before .before .before .before .before .before .before .pre .0 in omega (arith, p .1 .run .within, p .0 .sheet .sizes .targets)
+
+add-target-at : tie.Need-add-target-at Inv-loop μ-loop
+add-target-at c = let p = c .before .before .before .before .before .before .before .before .before .before .before .before .before .before .before .pre .0 in omega (arith, p .1 .run .within, p .0 .sheet .long, p .0 .sheet .sizes .targets, c .before .before .before .before .before .before .targets-at .ensures)
+
+target-at-requires : tie.Need-target-at-requires Inv-loop μ-loop
+target-at-requires c κs = let p = c .before .before .before .before .before .before .before .before .before .before .before .before .before .before .before .pre .0 in omega (arith, p .1 .run .within, p .0 .sheet .long, c .before .before .before .before .before .before .targets-at .ensures)
+
+row-value-requires : tie.Need-row-value-requires Inv-loop μ-loop
+row-value-requires c κs = let p = c .before .before .before .before .before .before .before .before .before .before .before .before .before .before .before .before .pre .0 in row-ready _ _ (p .0) (omega (arith, p .1 .run .within)) (row-is _ _ (c .before .before .before .before .before .before .before .targets-at .ensures) (c .target-at .ensures))
+
+family-of-requires : tie.Need-family-of-requires Inv-loop μ-loop
+family-of-requires c κs = search needs
+
+read-as-requires : tie.Need-read-as-requires Inv-loop μ-loop
+read-as-requires c κs = search needs
+
+cast-put : tie.Need-cast-put Inv-loop μ-loop
+cast-put c = let p = c .before .before .before .before .before .before .before .before .before .before .before .before .before .before .before .before .before .before .before .before .before .pre .0 in record { fits = omega (arith, pass-fits (p .1 .run) (c .before .before .before .before .before .before .before .before .before .before .loop .inv) (p .1 .held) (c .before .before .before .before .before .before .before .before .if1 .taken) refl (p .0 .book)) }
 
 put-requires : tie.Need-put-requires Inv-loop μ-loop
-put-requires c κs = let b = c .before .before .before .before .before .before in pass-room (b .before .before .before .before .before .before .loop .inv) (row-is _ _ (b .before .before .before .before .before .before .before .before .before .targets-at .ensures) (b .before .before .before .before .target-at .ensures)) (held-now (b .before)) (b .row-channel .ensures) (c .before .before .before .before .c .given .1)
+put-requires c κs = let p = c .before .before .before .before .before .before .before .before .before .before .before .before .before .before .before .before .before .before .before .before .before .pre .0 in pass-room (p .1 .run) (c .before .before .before .before .before .before .before .before .before .before .loop .inv) (p .1 .held) (c .before .before .before .before .before .before .before .before .if1 .taken) refl (c .before .before .before .before .before .before .if2 .left)
 
 loop-less-2 : tie.Need-loop-less-2 Inv-loop μ-loop
 loop-less-2 c = omega arith
 
 loop-again-2 : tie.Need-loop-again-2 Inv-loop μ-loop
 loop-again-2 c =
-    let p = c .before .before .before .before in
-    let j = c .before .before .before .before .before .before .before .before .before .before .before .before in
-    let t = j .before .before .before in
-    pass-at (t .before .before .loop .inv) (omega (arith, t .before .before .before .before .before .before .target-count .ensures)) (row-is _ _ (t .before .before .before .before .before .targets-at .ensures) (t .target-at .ensures)) (held-now j) (c .before .before .before .before .before .before .before .before .before .before .before .row-channel .ensures) (c .before .before .before .before .before .before .before .before .before .c .given .1)
-    (t .before .before .before .before .texture-count .ensures) (p .before .row-reading .ensures) (p .put .ensures)
+    let p = c .before .before .before .before .before .before .before .before .before .before .before .before .before .before .before .before .before .before .before .before .before .before .before .before .before .before .pre .0 in
+    let t = c .before .before .before .before .before .before .before .before .before .before in
+    pass-at (p .1 .run) (t .before .before .before .before .before .loop .inv) (p .1 .held) (t .before .before .before .if1 .taken) refl (t .before .if2 .left) (row-is _ _ (t .before .before .before .before .before .before .before .targets-at .ensures) (t .target-at .ensures)) (t .before .before .before .before .before .before .texture-count .ensures)
+    (read-is _ _ _ _ _ _ (c .before .before .before .before .before .before .before .before .before .row-value .ensures) (c .before .before .before .before .before .before .before .before .family-of .ensures) (c .before .before .before .before .before .before .before .read-as .ensures)) (c .before .before .before .before .put .ensures)
 
 same-length : tie.Need-same-length Inv-loop μ-loop
-same-length c = omega (arith, cleared _ _ (c .before .before .before .before .before .before .before .before .before .before .before .before .before .pre .1 .0))
+same-length c = omega (arith, cleared _ _ (c .before .before .before .before .before .before .before .before .before .before .before .before .before .pre .1 .0), c .before .before .loop .inv .marked .long)
 
 same-length-2 : tie.Need-same-length-2 Inv-loop μ-loop
-same-length-2 c = omega (arith, cleared _ _ (c .before .before .before .before .before .before .before .before .before .before .before .before .before .pre .1 .1))
+same-length-2 c = omega (arith, cleared _ _ (c .before .before .before .before .before .before .before .before .before .before .before .before .before .pre .1 .1), c .before .before .loop .inv .numbered .long)
 
 returns : tie.Need-returns Inv-loop μ-loop
-returns c = pass-all (c .before .loop .inv) (omega arith)
+returns c = pass-all (c .before .before .before .before .before .before .before .before .before .before .before .before .before .pre .0 .1 .run) (c .before .before .loop .inv) (omega arith)
 
 pub sweep-spec : {M : Type 1} → statement M
 sweep-spec =
@@ -100,22 +89,21 @@ sweep-spec =
     (tie.spec
     Inv-loop
     μ-loop
-    target-count-requires
     targets-at-requires
     texture-count-requires
-    none-held-requires
     loop-holds
+    add-next
+    mul-c
+    shared-slice-read-c
+    loop-less
+    loop-again
     mul-target-at
     add-target-at
     target-at-requires
-    add-next
-    held-for-requires
-    row-channel-requires
-    enum-known-c
-    enum-told
-    loop-less
-    loop-again
-    row-reading-requires
+    row-value-requires
+    family-of-requires
+    read-as-requires
+    cast-put
     put-requires
     loop-less-2
     loop-again-2

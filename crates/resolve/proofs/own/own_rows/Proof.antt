@@ -11,8 +11,23 @@ book-rows-requires c κs = search needs
 enum-known-active : tie.Need-enum-known-active
 enum-known-active c = search needs
 
+content-count-requires : tie.Need-content-count-requires
+content-count-requires c κs = search needs
+
+pane-index-requires : tie.Need-pane-index-requires
+pane-index-requires c κs = search needs
+
+material-index-requires : tie.Need-material-index-requires
+material-index-requires c κs = search needs
+
+slice-aggregate-sweep-own : tie.Need-slice-aggregate-sweep-own
+slice-aggregate-sweep-own c = search needs
+
+slice-aggregate-sweep-own-2 : tie.Need-slice-aggregate-sweep-own-2
+slice-aggregate-sweep-own-2 c = search needs
+
 sweep-own-requires : tie.Need-sweep-own-requires
-sweep-own-requires c κs = search needs
+sweep-own-requires c κs = let r = c .before .before .before .before .before .before .before .before .before .before .before .before .before .before .before .before .before .before .before .before .before .before .before .before .pre .0 in ((r, record { book = r .book; labels = c .before .before .before .before .before .pane-index .ensures; names = c .before .before .before .before .material-index .ensures }), c .before .before .before .before .before .before .before .before .before .before .before .before .before .before .book-rows .ensures)
 
 enum-told : tie.Need-enum-told
 enum-told c = search needs
@@ -24,7 +39,7 @@ same-length-2 : tie.Need-same-length-2
 same-length-2 c = search needs
 
 returns : tie.Need-returns
-returns c = let b = c .before .before .before .before in rw (b .before .before .before .before .active .given .1) (b .sweep-own .ensures)
+returns c = rw (c .before .before .before .before .before .before .before .before .before .before .before .before .before .active .given .1) (c .before .before .before .before .sweep-own .ensures)
 
 same-length-3 : tie.Need-same-length-3
 same-length-3 c = search needs
@@ -41,6 +56,11 @@ own-rows-spec =
     (tie.spec
     book-rows-requires
     enum-known-active
+    content-count-requires
+    pane-index-requires
+    material-index-requires
+    slice-aggregate-sweep-own
+    slice-aggregate-sweep-own-2
     sweep-own-requires
     enum-told
     same-length

@@ -1,5 +1,7 @@
--- Type, padding and animation are tested in the row's own bytes, the animation against the row before.
+-- Type, padding and animation are tested in the row's own bytes, the animation against the row before's, which is carried.
+use denote.Ref.{now}
 use Rattle.sheet.specs.Sheet.{contentOk}
+use Rattle.sheet.specs.Tested.{animationOf, prior-climbs}
 use borrow.Author.Needs.{needs}
 use Rattle.sheet.proofs.layout.content_ok.Statement.{statement}
 use Rattle.sheet.proofs.layout.content_ok.Tie as tie
@@ -25,21 +27,9 @@ add-u16-at c = search needs
 u16-at-requires : tie.Need-u16-at-requires
 u16-at-requires c κs = search needs
 
-before-requires : tie.Need-before-requires
-before-requires c κs = search needs
-
-mul-byte-at : tie.Need-mul-byte-at
-mul-byte-at c = search needs
-
-add-byte-at-2 : tie.Need-add-byte-at-2
-add-byte-at-2 c = search needs
-
-byte-at-requires-3 : tie.Need-byte-at-requires-3
-byte-at-requires-3 c κs = search needs
-
 returns : tie.Need-returns
-unfolding contentOk
-returns c = cc
+unfolding contentOk animationOf
+returns c = let a = c .before .before .before .before .args in rw (prior-climbs (animationOf (now (a .s)) (a .base)) (a .i)) (cc)
 
 pub content-ok-spec : {M : Type 1} → statement M
 content-ok-spec =
@@ -52,8 +42,4 @@ content-ok-spec =
     byte-at-requires-2
     add-u16-at
     u16-at-requires
-    before-requires
-    mul-byte-at
-    add-byte-at-2
-    byte-at-requires-3
     returns)

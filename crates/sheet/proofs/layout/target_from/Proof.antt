@@ -1,5 +1,10 @@
--- Curve, padding, content and first key are tested in the row's own bytes, the content against the row before.
+-- Curve, padding, content and first key are tested in the row's own bytes, the content against the row before's, which is carried.
+use native.Mathlib.Omega.{arith}
+use Prim.Native.Nat.{_+_, _*_}
+use denote.Ref.{now}
+use Rattle.sheet.specs.Sizes.{targetBytes}
 use Rattle.sheet.specs.Sheet.{targetFrom}
+use Rattle.sheet.specs.Tested.{contentOf, prior-climbs, curve-padded}
 use borrow.Author.Needs.{needs}
 use Rattle.sheet.proofs.layout.target_from.Statement.{statement}
 use Rattle.sheet.proofs.layout.target_from.Tie as tie
@@ -12,24 +17,6 @@ add-at c = search needs
 
 u16-at-requires : tie.Need-u16-at-requires
 u16-at-requires c κs = search needs
-
-add-byte-at : tie.Need-add-byte-at
-add-byte-at c = search needs
-
-byte-at-requires : tie.Need-byte-at-requires
-byte-at-requires c κs = search needs
-
-add-byte-at-2 : tie.Need-add-byte-at-2
-add-byte-at-2 c = search needs
-
-byte-at-requires-2 : tie.Need-byte-at-requires-2
-byte-at-requires-2 c κs = search needs
-
-before-requires : tie.Need-before-requires
-before-requires c κs = search needs
-
-mul-u16-at : tie.Need-mul-u16-at
-mul-u16-at c = search needs
 
 add-u16-at : tie.Need-add-u16-at
 add-u16-at c = search needs
@@ -44,8 +31,12 @@ u16-at-requires-3 : tie.Need-u16-at-requires-3
 u16-at-requires-3 c κs = search needs
 
 returns : tie.Need-returns
-unfolding targetFrom
-returns c = cc
+unfolding targetFrom contentOf
+returns c =
+    let b = c .before .before .before in
+    let a = b .before .args in
+    let at = a .base + a .i * targetBytes in
+    rw (← curve-padded (now (a .s)) at (omega (arith, b .shared-slice-known .given (at + 8))), prior-climbs (contentOf (now (a .s)) (a .base)) (a .i)) (cc)
 
 pub target-from-spec : {M : Type 1} → statement M
 target-from-spec =
@@ -54,12 +45,6 @@ target-from-spec =
     mul-at
     add-at
     u16-at-requires
-    add-byte-at
-    byte-at-requires
-    add-byte-at-2
-    byte-at-requires-2
-    before-requires
-    mul-u16-at
     add-u16-at
     u16-at-requires-2
     add-u16-at-2

@@ -1,61 +1,76 @@
--- The loop fills the block corner by corner.
-use Prim.Native.Nat.{_-_}
-use native.Mathlib.Omega.{arith}
-use Rattle.laws.specs.Table.{Filled, filled-none, filled-more, filled-all}
-use Rattle.uv.specs.Uvs.{cornerUvs}
+-- Each corner has its pair of each of the three sets.
+use Rattle.uv.specs.Sets.{sets-base}
+use borrow.Author.Needs.{needs}
 use Rattle.uv.proofs.block.compute_uvs.Statement.{statement}
 use Rattle.uv.proofs.block.compute_uvs.Tie as tie
 
-abbrev Inv-loop : tie.InvT-loop
-Inv-loop layers uvs₀ v₀ uvs v = Filled 4 (cornerUvs layers) uvs v
+get-uv-set-requires : tie.Need-get-uv-set-requires
+get-uv-set-requires c κs = search needs
 
-abbrev μ-loop : tie.MeasureT-loop
-μ-loop layers uvs₀ v₀ uvs v = 4 - v
+get-uv-set-requires-2 : tie.Need-get-uv-set-requires-2
+get-uv-set-requires-2 c κs = search needs
 
-loop-holds : tie.Need-loop-holds Inv-loop μ-loop
-loop-holds c = filled-none _ _
+get-uv-set-requires-3 : tie.Need-get-uv-set-requires-3
+get-uv-set-requires-3 c κs = search needs
 
-layer-uv-requires : tie.Need-layer-uv-requires Inv-loop μ-loop
-layer-uv-requires c κs = omega arith
+array-copy-out-t8 : tie.Need-array-copy-out-t8
+array-copy-out-t8 c = search needs
 
-layer-uv-requires-2 : tie.Need-layer-uv-requires-2 Inv-loop μ-loop
-layer-uv-requires-2 c κs = omega arith
+array-copy-out-t11 : tie.Need-array-copy-out-t11
+array-copy-out-t11 c = search needs
 
-layer-uv-requires-3 : tie.Need-layer-uv-requires-3 Inv-loop μ-loop
-layer-uv-requires-3 c κs = omega arith
+array-copy-out-t14 : tie.Need-array-copy-out-t14
+array-copy-out-t14 c = search needs
 
-mul-uvs : tie.Need-mul-uvs Inv-loop μ-loop
-mul-uvs c = omega arith
+array-copy-out-t18 : tie.Need-array-copy-out-t18
+array-copy-out-t18 c = search needs
 
-array-set-from-uvs : tie.Need-array-set-from-uvs Inv-loop μ-loop
-array-set-from-uvs c = omega arith
+array-copy-out-t21 : tie.Need-array-copy-out-t21
+array-copy-out-t21 c = search needs
 
-add-v : tie.Need-add-v Inv-loop μ-loop
-add-v c = omega arith
+array-copy-out-t24 : tie.Need-array-copy-out-t24
+array-copy-out-t24 c = search needs
 
-loop-less : tie.Need-loop-less Inv-loop μ-loop
-loop-less c = omega arith
+array-copy-out-t28 : tie.Need-array-copy-out-t28
+array-copy-out-t28 c = search needs
 
-loop-again : tie.Need-loop-again Inv-loop μ-loop
-unfolding cornerUvs
-loop-again c = filled-more (c .before .before .before .before .loop .inv) (omega arith) (cc)
+array-copy-out-t31 : tie.Need-array-copy-out-t31
+array-copy-out-t31 c = search needs
 
-returns : tie.Need-returns Inv-loop μ-loop
-returns c = filled-all (c .before .loop .inv) (omega arith)
+array-copy-out-t34 : tie.Need-array-copy-out-t34
+array-copy-out-t34 c = search needs
+
+array-copy-out-t38 : tie.Need-array-copy-out-t38
+array-copy-out-t38 c = search needs
+
+array-copy-out-t41 : tie.Need-array-copy-out-t41
+array-copy-out-t41 c = search needs
+
+array-copy-out-t44 : tie.Need-array-copy-out-t44
+array-copy-out-t44 c = search needs
+
+returns : tie.Need-returns
+returns c =
+    let sets = c .before .before .before .before .before .before .before .before .before .before .before .before in
+    rw (sets .before .before .get-uv-set .ensures, sets .before .get-uv-set2 .ensures, sets .get-uv-set3 .ensures) (sets-base _)
 
 pub compute-uvs-spec : {M : Type 1} → statement M
 compute-uvs-spec =
     tie.close
     (tie.spec
-    Inv-loop
-    μ-loop
-    loop-holds
-    layer-uv-requires
-    layer-uv-requires-2
-    layer-uv-requires-3
-    mul-uvs
-    array-set-from-uvs
-    add-v
-    loop-less
-    loop-again
+    get-uv-set-requires
+    get-uv-set-requires-2
+    get-uv-set-requires-3
+    array-copy-out-t8
+    array-copy-out-t11
+    array-copy-out-t14
+    array-copy-out-t18
+    array-copy-out-t21
+    array-copy-out-t24
+    array-copy-out-t28
+    array-copy-out-t31
+    array-copy-out-t34
+    array-copy-out-t38
+    array-copy-out-t41
+    array-copy-out-t44
     returns)

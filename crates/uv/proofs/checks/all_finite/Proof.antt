@@ -1,22 +1,21 @@
--- The loop has seen that every number so far is finite.
+-- After i turns the answer is whether the first i numbers are finite.
 use Prim.Native.Nat.{_-_}
 use native.Mathlib.Omega.{arith}
 use lib.ListN.{length}
 use borrow.Author.Needs.{needs}
-use Rattle.laws.specs.Tests.{no, yes}
-use Rattle.laws.specs.Below.{Passed, passed-none, passed-more, passed-not, passed-all}
+use Rattle.laws.specs.Joined.{Joined, joined-none, joined-more, joined-all}
 use Rattle.uv.specs.Declined.{finiteAt, allFinite}
 use Rattle.uv.proofs.checks.all_finite.Statement.{statement}
 use Rattle.uv.proofs.checks.all_finite.Tie as tie
 
 abbrev Inv-loop : tie.InvT-loop
-Inv-loop s i₀ i = Passed (length s) (finiteAt s) i
+Inv-loop s ok₀ i₀ ok i = Joined (length s) (finiteAt s) ok i
 
 abbrev μ-loop : tie.MeasureT-loop
-μ-loop s i₀ i = length s - i
+μ-loop s ok₀ i₀ ok i = length s - i
 
 loop-holds : tie.Need-loop-holds Inv-loop μ-loop
-loop-holds c = passed-none _ _
+loop-holds c = joined-none _ _
 
 mul-is-finite : tie.Need-mul-is-finite Inv-loop μ-loop
 mul-is-finite c = omega arith
@@ -27,10 +26,6 @@ shared-slice-read-is-finite c = omega arith
 is-finite-requires : tie.Need-is-finite-requires Inv-loop μ-loop
 is-finite-requires c κs = search needs
 
-returns : tie.Need-returns Inv-loop μ-loop
-unfolding allFinite finiteAt
-returns c = passed-not (c .before .before .before .before .loop .inv) (omega arith) (no (c .before .is-finite .ensures) (c .if1 .taken))
-
 add-i : tie.Need-add-i Inv-loop μ-loop
 add-i c = omega arith
 
@@ -39,11 +34,11 @@ loop-less c = omega arith
 
 loop-again : tie.Need-loop-again Inv-loop μ-loop
 unfolding finiteAt
-loop-again c = passed-more (c .before .before .before .before .loop .inv) (omega arith) (yes (c .before .is-finite .ensures) (c .if1 .left))
+loop-again c = joined-more (c .before .before .before .loop .inv) (omega arith) (c .is-finite .ensures)
 
-returns-2 : tie.Need-returns-2 Inv-loop μ-loop
+returns : tie.Need-returns Inv-loop μ-loop
 unfolding allFinite
-returns-2 c = passed-all (c .before .loop .inv) (omega arith)
+returns c = joined-all (c .before .loop .inv) (omega arith)
 
 pub all-finite-spec : {M : Type 1} → statement M
 all-finite-spec =
@@ -55,8 +50,7 @@ all-finite-spec =
     mul-is-finite
     shared-slice-read-is-finite
     is-finite-requires
-    returns
     add-i
     loop-less
     loop-again
-    returns-2)
+    returns)
