@@ -1,10 +1,10 @@
--- What loading gives, and the name that follows an animation on each side of its refusal. Assumes nothing.
+-- What loading gives, what play of none does, and the name that follows an animation on each side of its refusal. Assumes nothing.
 use Prim.Native.Nat.{ℕ, _<_, _≤_}
 use mathlib.Core.Path.{_≡_, refl}
 use mathlib.Core.Bool.{true, false, not, _||_}
 use mathlib.Core.List.{List, []}
 use native.Mathlib.Omega.{arith}
-use borrow.Author.Tests.{lt-ltb, le-ltb, not-true, not-false}
+use borrow.Author.Tests.{eq-eqb, lt-ltb, le-ltb, not-true, not-false}
 use lib.Dec.{eqb, ltb}
 use lib.Ieee.{Float}
 use Rattle.laws.specs.Rows.{fails, passes, no-rows}
@@ -13,7 +13,10 @@ use Rattle.sheet.specs.Rows.{nextName}
 use Rattle.sheet.specs.Sheet.{sheetOk}
 use Rattle.keys.specs.Load.{loaded, loadOf}
 use Rattle.edit.specs.Keys.{keys}
+use Rattle.edit.specs.Edit.{none}
 use Rattle.player.specs.declared.Player.{Player}
+use Rattle.player.specs.Parts.{viewOf, withView}
+use Rattle.player.specs.View.{playView}
 use Rattle.player.specs.Player.{freshPlayer}
 use Rattle.menu_checks.specs.Checks.{name-refused, name-made}
 use Rattle.menu.specs.Rows.{nextNameTable}
@@ -25,6 +28,11 @@ play-no a n {k} e t = rw (← e) (not-true (eqb a n || ltb a k) t)
 
 pub play-yes : (a n : ℕ) {k m : ℕ} → k ≡ m → not (eqb a n || ltb a k) ≡ false → (eqb a n || ltb a m) ≡ true
 play-yes a n {k} e t = rw (← e) (not-false (eqb a n || ltb a k) t)
+
+-- play of none leaves the player
+pub play-none : (p : Player) (a : ℕ) → a ≡ none → p ≡ withView p (playView a (viewOf p))
+unfolding playView
+play-none p a e = rw (eq-eqb a none e)
 
 -- ---- loading
 pub load-is : (s : List ℕ) (fs vs ss fs′ vs′ ss′ : List Float) (n : ℕ) (p : Player) → loaded n fs′ vs′ ss′ ≡ loadOf s fs vs ss → p ≡ freshPlayer

@@ -1,19 +1,18 @@
 -- What a call gives on each side of its refusal. Assumes nothing.
 use Prim.Native.Nat.{ℕ}
 use mathlib.Core.Path.{_≡_}
-use mathlib.Core.Bool.{Bool, false, cond}
+use mathlib.Core.Bool.{cond}
 use mathlib.Core.List.{List}
 use borrow.Author.Tests.{ne-eqb}
 use lib.Dec.{eqb}
 use Rattle.laws.specs.Rows.{Row, declines}
-use Rattle.edit.specs.Keys.{Keys}
 use Rattle.player.specs.declared.Player.{Player}
 use Rattle.player.specs.declared.Tick.{Tick}
 use Rattle.player.specs.declared.Tick.the-variants.{Idle}
 use Rattle.player.specs.declared.playing.Stepped.{Stepped}
 use Rattle.menu.specs.declared.playing.Played.{Played}
 use Rattle.menu.specs.declared.playing.Ticked.{Ticked}
-use Rattle.menu.specs.Calls.{gave, changed, gaveEdit, editedBy, wrote, writtenBy}
+use Rattle.menu.specs.Calls.{wrote, writtenBy}
 
 module _ {n m : ℕ} (p q : Player) (e : n ≡ m) where
   pub played-not : (n ≡ 0 → ⊥) → _≡_ {A = Played} (record { refusal = n; player = p }) (record { refusal = m; player = cond (eqb m 0) q p })
@@ -30,14 +29,6 @@ module _ {n m : ℕ} (p q : Player) (e : n ≡ m) where
     pub ticked : {r : Stepped} → n ≡ 0 → r ≡ record { answer = a; player = q }
         → _≡_ {A = Ticked} (record { refusal = 0; answer = r .answer; player = r .player }) (record { refusal = m; answer = cond (eqb m 0) a Idle; player = cond (eqb m 0) q p })
     ticked z h = rw (← e, z, h)
-
--- a call that may change keys, declined: player and keys are as they were
-pub changed-not : {n m : ℕ} (p q : Player) (ks ls : Keys) → n ≡ m → (n ≡ 0 → ⊥) → gave (record { refusal = n; player = p }) ks ≡ changed m p ks q ls
-changed-not {n} p q ks ls e d = rw (← e, ne-eqb n 0 d)
-
--- and an edit or a drag
-pub edited-not : {n m : ℕ} (same : Bool) (p q : Player) (ks ls : Keys) → n ≡ m → (n ≡ 0 → ⊥) → gaveEdit (record { refusal = n; unchanged = false; player = p }) ks ≡ editedBy m same p ks q ls
-edited-not {n} same p q ks ls e d = rw (← e, ne-eqb n 0 d)
 
 -- a call that writes bytes into an output
 module _ {n : ℕ} (rs : List Row) (bytes o : List ℕ) (e : n ≡ declines rs) where

@@ -1,4 +1,4 @@
--- What saving may count on where nothing is declined. Assumes nothing.
+-- Saving's list of rows, and what it may count on where nothing is declined. Assumes nothing.
 use Prim.Native.Nat.{ℕ}
 use mathlib.Core.Path.{_≡_, sym, _∙_}
 use mathlib.Core.List.{List}
@@ -10,9 +10,15 @@ use Rattle.keys.specs.Checked.{keys-checked}
 use Rattle.saved.specs.Saved.{Savable}
 use Rattle.player.specs.declared.Player.{Player}
 use Rattle.edit.specs.Keys.{keys}
-use Rattle.menu_checks.specs.Rows.{stateRows}
-use Rattle.menu_checks.specs.Checks.{state-ready}
+use Rattle.menu_checks.specs.Rows.{stateRows, behind}
+use Rattle.menu_checks.specs.Checks.{state-ready, state-behind}
 use Rattle.menu.specs.Rows.{saveRows, saveTable}
+
+-- the call's list, by what its check and its own row answered
+pub save-table : (s : List ℕ) (p : Player) (fs vs ss : List Float) (room : ℕ) {n m : ℕ} → n ≡ declines (stateRows s p (keys fs vs ss)) → m ≡ behind n (declines (saveRows s room))
+    → m ≡ declines (saveTable s p (keys fs vs ss) room)
+unfolding saveTable
+save-table s p fs vs ss room e h = state-behind s p fs vs ss _ e h
 
 -- where no row declines, the sheet can be written with the keys, and the buffer is as long as it
 pub savable : (s : List ℕ) (p : Player) (fs vs ss : List Float) (room : ℕ) {n : ℕ} → n ≡ declines (saveTable s p (keys fs vs ss) room) → n ≡ 0

@@ -1,5 +1,7 @@
 // A drag of one key: opened, dragged, and then dropped or abandoned. Play, pose, tick, readings and saving go on meanwhile.
 use crate::editing::Edited;
+use crate::editing::entry_for;
+use crate::editing::put_entry;
 use crate::playing::Played;
 use edit::put::put_key;
 use edit::put::same_key;
@@ -9,31 +11,31 @@ use edit::request::track_refusal;
 use edit::spot::spot_of;
 use laws::refusal::ACCEPTED;
 use laws::refusal::DRAG_STATE;
+use menu_checks::check_keys;
 use menu_checks::check_state;
 use player::Player;
 use player::drag::Drag;
 ghost use mathlib.Core.Path.{_≡_};
 ghost use Rattle.laws.specs.Rows.{declines};
+ghost use Rattle.sheet.specs.Checked.{Checked};
 ghost use Rattle.edit.specs.Keys.{lent};
-ghost use Rattle.menu.specs.Rows.{openTable, dragTable, closeTable};
+ghost use Rattle.edit.specs.Edit.{trackRows};
+ghost use Rattle.player.specs.Drag.{openRows};
+ghost use Rattle.player.specs.Dragged.{Draggable};
+ghost use Rattle.menu_checks.specs.Rows.{behind};
+ghost use Rattle.menu.specs.Rows.{dragRows};
 ghost use Rattle.menu.specs.Calls.{gave, gaveEdit, openOf, dragOf, dropOf, abandonOf};
+ghost use Rattle.menu.specs.Steps.{Placed, movesSame, movedKeys, abandonedDrag, abandonedKeys};
 
-fn open_refusal(
-    p: Player,
-    s: &[u8],
-    frames: &[f32],
-    values: &[f32],
-    slopes: &[f32],
-    track: u16,
-    key: u16,
-) -> u8
-    ensures { λ n. ⌜ n ≡ declines (openTable (now (s .entry)) p (lent (frames .entry) (values .entry) (slopes .entry)) track key) ⌝ }
+// Rows 6, 15 and 7, behind n.
+fn open_refusal(n: u8, s: &[u8], selection: u16, dragging: bool, track: u16, key: u16) -> u8
+    requires { ⌜ (n ≡ 0 → Checked (now s)) ⌝ }
+    ensures { λ r. ⌜ r ≡ behind n (declines (trackRows (now (s .entry)) selection dragging track key)) ⌝ }
 {
-    let n = check_state(p, s, frames, values, slopes);
     if n != ACCEPTED {
         return n;
     }
-    track_refusal(s, p.selection, p.drag.open, track, key)
+    track_refusal(s, selection, dragging, track, key)
 }
 
 // Opens a drag of a key of the active animation. Refusals 1, 3 to 6, 15, 7.
@@ -48,10 +50,12 @@ pub fn open_drag(
 ) -> Played
     ensures { λ r. ⌜ r ≡ openOf (now (s .entry)) p (lent (frames .entry) (values .entry) (slopes .entry)) track key ⌝ }
 {
-    let n = open_refusal(p, s, frames, values, slopes, track, key);
-    if n != ACCEPTED {
+    let first = check_keys(s, frames, values, slopes);
+    let n = check_state(first, p, s, frames, values, slopes);
+    let m = open_refusal(n, s, p.selection, p.drag.open, track, key);
+    if m != ACCEPTED {
         return Played {
-            refusal: n,
+            refusal: m,
             player: p,
         };
     }
@@ -63,8 +67,10 @@ pub fn open_drag(
     }
 }
 
+// Rows 15, 8 and 9, behind n.
 fn drag_refusal(
-    p: Player,
+    n: u8,
+    d: Drag,
     s: &[u8],
     frames: &[f32],
     values: &[f32],
@@ -72,18 +78,40 @@ fn drag_refusal(
     frame: f32,
     value: f32,
 ) -> u8
-    ensures { λ n. ⌜ n ≡ declines (dragTable (now (s .entry)) p (lent (frames .entry) (values .entry) (slopes .entry)) frame value) ⌝ }
+    requires { ⌜ (n ≡ 0 → Draggable (now s) (lent frames values slopes) d) ⌝ }
+    ensures { λ r. ⌜ r ≡ behind n (declines (dragRows (now (s .entry)) (lent (frames .entry) (values .entry) (slopes .entry)) d frame value)) ⌝ }
 {
-    let n = check_state(p, s, frames, values, slopes);
     if n != ACCEPTED {
         return n;
     }
-    let d = p.drag;
     if !d.open {
         return DRAG_STATE;
     }
     let spot = spot_of(s, d.track as usize, d.key);
     request_refusal(frames, spot, Request::Key(frame, value))
+}
+
+// The open key is put where it is asked for, where n declines nothing; whether it has the same bits as before.
+fn move_key(
+    n: u8,
+    s: &[u8],
+    frames: &mut [f32],
+    values: &mut [f32],
+    slopes: &mut [f32],
+    track: u16,
+    key: u16,
+    r: Request,
+) -> bool
+    requires { ⌜ (n ≡ 0 → Placed (now s) (lent frames values slopes) track key) ⌝ }
+    ensures same { λ b. ⌜ b ≡ movesSame n (now (s .entry)) (lent (frames .entry) (values .entry) (slopes .entry)) track key r ⌝ }
+    ensures keys { λ _. ⌜ lent (frames .exit) (values .exit) (slopes .exit) ≡ movedKeys n (now (s .entry)) (lent (frames .entry) (values .entry) (slopes .entry)) track key r ⌝ }
+{
+    if n != ACCEPTED {
+        return false;
+    }
+    let e = entry_for(s, frames, values, slopes, track, key, r);
+    put_entry(s, frames, values, slopes, e);
+    same_key(e.after, e.before)
 }
 
 // Moves the open key to a frame and a value, whatever animation is active. Refusals 1, 3 to 5, 15, 8, 9.
@@ -98,35 +126,28 @@ pub fn drag(
 ) -> Edited
     ensures { λ g. ⌜ gaveEdit g (lent (frames .exit) (values .exit) (slopes .exit)) ≡ dragOf (now (s .entry)) p (lent (frames .entry) (values .entry) (slopes .entry)) frame value ⌝ }
 {
-    let n = drag_refusal(p, s, frames, values, slopes, frame, value);
-    if n != ACCEPTED {
-        return Edited {
-            refusal: n,
-            unchanged: false,
-            player: p,
-        };
-    }
     let d = p.drag;
-    let spot = spot_of(s, d.track as usize, d.key);
-    let at = spot.at;
-    let now = curve::key_at(frames, values, slopes, at);
-    let next = edit::request::edited(frames, values, slopes, spot, Request::Key(frame, value));
-    put_key(frames, values, slopes, at, next);
+    let first = check_keys(s, frames, values, slopes);
+    let n = check_state(first, p, s, frames, values, slopes);
+    let m = drag_refusal(n, d, s, frames, values, slopes, frame, value);
+    let r = Request::Key(frame, value);
+    let unchanged = move_key(m, s, frames, values, slopes, d.track, d.key, r);
+    let moved = (m == ACCEPTED) | d.moved;
     Edited {
-        refusal: ACCEPTED,
-        unchanged: same_key(next, now),
-        player: p.with_drag(Drag { moved: true, ..d }),
+        refusal: m,
+        unchanged,
+        player: p.with_drag(Drag { moved, ..d }),
     }
 }
 
-fn close_refusal(p: Player, s: &[u8], frames: &[f32], values: &[f32], slopes: &[f32]) -> u8
-    ensures { λ n. ⌜ n ≡ declines (closeTable (now (s .entry)) p (lent (frames .entry) (values .entry) (slopes .entry))) ⌝ }
+// Row 15, behind n.
+fn close_refusal(n: u8, dragging: bool) -> u8
+    ensures { λ r. ⌜ r ≡ behind n (declines (openRows dragging)) ⌝ }
 {
-    let n = check_state(p, s, frames, values, slopes);
     if n != ACCEPTED {
         return n;
     }
-    if !p.drag.open {
+    if !dragging {
         return DRAG_STATE;
     }
     ACCEPTED
@@ -136,7 +157,9 @@ fn close_refusal(p: Player, s: &[u8], frames: &[f32], values: &[f32], slopes: &[
 pub fn drop_drag(p: Player, s: &[u8], frames: &[f32], values: &[f32], slopes: &[f32]) -> Edited
     ensures { λ r. ⌜ r ≡ dropOf (now (s .entry)) p (lent (frames .entry) (values .entry) (slopes .entry)) ⌝ }
 {
-    let n = close_refusal(p, s, frames, values, slopes);
+    let d = p.drag;
+    let first = check_keys(s, frames, values, slopes);
+    let n = close_refusal(check_state(first, p, s, frames, values, slopes), d.open);
     if n != ACCEPTED {
         return Edited {
             refusal: n,
@@ -144,7 +167,6 @@ pub fn drop_drag(p: Player, s: &[u8], frames: &[f32], values: &[f32], slopes: &[
             player: p,
         };
     }
-    let d = p.drag;
     let spot = spot_of(s, d.track as usize, d.key);
     let now = curve::key_at(frames, values, slopes, spot.at);
     Edited {
@@ -152,6 +174,27 @@ pub fn drop_drag(p: Player, s: &[u8], frames: &[f32], values: &[f32], slopes: &[
         unchanged: d.unchanged(now),
         player: p.dropped(now),
     }
+}
+
+// The open key is put back as it was at opening, where n declines nothing; the drag after it.
+fn put_back(
+    n: u8,
+    d: Drag,
+    s: &[u8],
+    frames: &mut [f32],
+    values: &mut [f32],
+    slopes: &mut [f32],
+) -> Drag
+    requires { ⌜ (n ≡ 0 → Placed (now s) (lent frames values slopes) (d .track) (d .key)) ⌝ }
+    ensures drag { λ r. ⌜ r ≡ abandonedDrag n d ⌝ }
+    ensures keys { λ _. ⌜ lent (frames .exit) (values .exit) (slopes .exit) ≡ abandonedKeys n (now (s .entry)) (lent (frames .entry) (values .entry) (slopes .entry)) d ⌝ }
+{
+    if n != ACCEPTED {
+        return d;
+    }
+    let spot = spot_of(s, d.track as usize, d.key);
+    put_key(frames, values, slopes, spot.at, d.start());
+    Drag::closed()
 }
 
 // Puts the key back as it was at opening; nothing is counted. Refusals 1, 3 to 5, 15.
@@ -164,18 +207,12 @@ pub fn abandon_drag(
 ) -> Played
     ensures { λ g. ⌜ gave g (lent (frames .exit) (values .exit) (slopes .exit)) ≡ abandonOf (now (s .entry)) p (lent (frames .entry) (values .entry) (slopes .entry)) ⌝ }
 {
-    let n = close_refusal(p, s, frames, values, slopes);
-    if n != ACCEPTED {
-        return Played {
-            refusal: n,
-            player: p,
-        };
-    }
     let d = p.drag;
-    let spot = spot_of(s, d.track as usize, d.key);
-    put_key(frames, values, slopes, spot.at, d.start());
+    let first = check_keys(s, frames, values, slopes);
+    let n = close_refusal(check_state(first, p, s, frames, values, slopes), d.open);
+    let next = put_back(n, d, s, frames, values, slopes);
     Played {
-        refusal: ACCEPTED,
-        player: p.with_drag(Drag::closed()),
+        refusal: n,
+        player: p.with_drag(next),
     }
 }

@@ -1,6 +1,7 @@
 // Saving: the sheet with the keys as they are now.
 use laws::refusal::ACCEPTED;
 use laws::refusal::SAVE_LENGTH;
+use menu_checks::check_keys;
 use menu_checks::check_state;
 use player::Player;
 use saved::write_sheet;
@@ -8,20 +9,14 @@ ghost use mathlib.Core.Path.{_≡_};
 ghost use lib.ListN.{length};
 ghost use Rattle.laws.specs.Rows.{declines};
 ghost use Rattle.edit.specs.Keys.{lent};
-ghost use Rattle.menu.specs.Rows.{saveTable};
+ghost use Rattle.menu_checks.specs.Rows.{behind};
+ghost use Rattle.menu.specs.Rows.{saveRows};
 ghost use Rattle.menu.specs.Calls.{wrote, saveOf};
 
-fn save_refusal(
-    p: Player,
-    s: &[u8],
-    frames: &[f32],
-    values: &[f32],
-    slopes: &[f32],
-    room: usize,
-) -> u8
-    ensures { λ n. ⌜ n ≡ declines (saveTable (now (s .entry)) p (lent (frames .entry) (values .entry) (slopes .entry)) room) ⌝ }
+// Row 14, behind n.
+fn save_refusal(n: u8, s: &[u8], room: usize) -> u8
+    ensures { λ r. ⌜ r ≡ behind n (declines (saveRows (now (s .entry)) room)) ⌝ }
 {
-    let n = check_state(p, s, frames, values, slopes);
     if n != ACCEPTED {
         return n;
     }
@@ -42,9 +37,11 @@ pub fn save(
 ) -> u8
     ensures { λ n. ⌜ wrote n (now (out .exit)) ≡ saveOf (now (s .entry)) p (lent (frames .entry) (values .entry) (slopes .entry)) (now (out .entry)) ⌝ }
 {
-    let n = save_refusal(p, s, frames, values, slopes, out.len());
-    if n != ACCEPTED {
-        return n;
+    let first = check_keys(s, frames, values, slopes);
+    let n = check_state(first, p, s, frames, values, slopes);
+    let m = save_refusal(n, s, out.len());
+    if m != ACCEPTED {
+        return m;
     }
     write_sheet(s, frames, values, slopes, out);
     ACCEPTED

@@ -1,32 +1,42 @@
 // Undo and redo: both take an entry of the journal.
+use crate::editing::put_entry;
 use crate::playing::Played;
-use edit::put::put_key;
-use edit::spot::spot_of;
 use laws::refusal::ACCEPTED;
 use laws::refusal::BROKEN_STATE;
 use laws::refusal::DRAG_STATE;
 use laws::refusal::NOTHING_TO_TAKE;
+use menu_checks::check_keys;
 use menu_checks::check_state;
 use player::Player;
+use player::journal::Entry;
 use player::undo::Way;
-use player::undo::entries;
 use player::undo::take_fits;
 ghost use mathlib.Core.Path.{_≡_};
 ghost use Rattle.laws.specs.Rows.{declines};
 ghost use Rattle.edit.specs.Keys.{lent};
-ghost use Rattle.menu.specs.Rows.{takeTable};
-ghost use Rattle.menu.specs.Calls.{gave, takeOf, undoOf, redoOf};
+ghost use Rattle.player.specs.Takes.{Takeable};
+ghost use Rattle.menu_checks.specs.Rows.{behind};
+ghost use Rattle.menu.specs.Calls.{gave, undoOf, redoOf};
+ghost use Rattle.menu.specs.Steps.{entryRows, takenBehind};
 
-fn take_refusal(p: Player, way: Way, s: &[u8], frames: &[f32], values: &[f32], slopes: &[f32]) -> u8
-    ensures { λ n. ⌜ n ≡ declines (takeTable way (now (s .entry)) p (lent (frames .entry) (values .entry) (slopes .entry))) ⌝ }
+// Rows 5, 15 and 11 behind n, of the first of `left` entries.
+fn take_refusal(
+    n: u8,
+    s: &[u8],
+    frames: &[f32],
+    values: &[f32],
+    slopes: &[f32],
+    dragging: bool,
+    left: u64,
+    e: Entry,
+) -> u8
+    requires { ⌜ (n ≡ 0 → Takeable (now s) (lent frames values slopes) left e) ⌝ }
+    ensures { λ r. ⌜ r ≡ behind n (declines (entryRows (now (s .entry)) (lent (frames .entry) (values .entry) (slopes .entry)) dragging left e)) ⌝ }
 {
-    let n = check_state(p, s, frames, values, slopes);
     if n != ACCEPTED {
         return n;
     }
-    let left = entries(way, p.reach, p.redo);
-    let dragging = p.drag.open;
-    if !take_fits(s, frames, values, slopes, dragging, left, p.entry(way)) {
+    if !take_fits(s, frames, values, slopes, dragging, left, e) {
         return BROKEN_STATE;
     }
     if dragging {
@@ -38,31 +48,27 @@ fn take_refusal(p: Player, way: Way, s: &[u8], frames: &[f32], values: &[f32], s
     ACCEPTED
 }
 
-// The entry's key is left as the entry leaves it.
+// The entry is taken, where no row declines it.
 fn take(
-    p: Player,
-    way: Way,
+    n: u8,
     s: &[u8],
     frames: &mut [f32],
     values: &mut [f32],
     slopes: &mut [f32],
-) -> Played
-    ensures { λ g. ⌜ gave g (lent (frames .exit) (values .exit) (slopes .exit)) ≡ takeOf way (now (s .entry)) p (lent (frames .entry) (values .entry) (slopes .entry)) ⌝ }
+    dragging: bool,
+    left: u64,
+    e: Entry,
+) -> u8
+    requires { ⌜ (n ≡ 0 → Takeable (now s) (lent frames values slopes) left e) ⌝ }
+    ensures number { λ r. ⌜ r ≡ behind n (declines (entryRows (now (s .entry)) (lent (frames .entry) (values .entry) (slopes .entry)) dragging left e)) ⌝ }
+    ensures keys { λ r. ⌜ lent (frames .exit) (values .exit) (slopes .exit) ≡ takenBehind r (now (s .entry)) (lent (frames .entry) (values .entry) (slopes .entry)) e ⌝ }
 {
-    let n = take_refusal(p, way, s, frames, values, slopes);
-    if n != ACCEPTED {
-        return Played {
-            refusal: n,
-            player: p,
-        };
+    let m = take_refusal(n, s, frames, values, slopes, dragging, left, e);
+    if m != ACCEPTED {
+        return m;
     }
-    let e = p.entry(way);
-    let spot = spot_of(s, e.track as usize, e.key);
-    put_key(frames, values, slopes, spot.at, e.after);
-    Played {
-        refusal: ACCEPTED,
-        player: p.after_take(way),
-    }
+    put_entry(s, frames, values, slopes, e);
+    ACCEPTED
 }
 
 // Takes the last standing edit back. Refusals 1, 3 to 5, 15, 11.
@@ -75,7 +81,20 @@ pub fn undo(
 ) -> Played
     ensures { λ g. ⌜ gave g (lent (frames .exit) (values .exit) (slopes .exit)) ≡ undoOf (now (s .entry)) p (lent (frames .entry) (values .entry) (slopes .entry)) ⌝ }
 {
-    take(p, Way::Undo, s, frames, values, slopes)
+    let first = check_keys(s, frames, values, slopes);
+    let n = check_state(first, p, s, frames, values, slopes);
+    let e = p.entry(Way::Undo);
+    let m = take(n, s, frames, values, slopes, p.drag.open, p.reach, e);
+    if m != ACCEPTED {
+        return Played {
+            refusal: m,
+            player: p,
+        };
+    }
+    Played {
+        refusal: ACCEPTED,
+        player: p.after_take(Way::Undo),
+    }
 }
 
 // Makes the edit that was undone last again. Refusals 1, 3 to 5, 15, 11.
@@ -88,5 +107,18 @@ pub fn redo(
 ) -> Played
     ensures { λ g. ⌜ gave g (lent (frames .exit) (values .exit) (slopes .exit)) ≡ redoOf (now (s .entry)) p (lent (frames .entry) (values .entry) (slopes .entry)) ⌝ }
 {
-    take(p, Way::Redo, s, frames, values, slopes)
+    let first = check_keys(s, frames, values, slopes);
+    let n = check_state(first, p, s, frames, values, slopes);
+    let e = p.entry(Way::Redo);
+    let m = take(n, s, frames, values, slopes, p.drag.open, p.redo, e);
+    if m != ACCEPTED {
+        return Played {
+            refusal: m,
+            player: p,
+        };
+    }
+    Played {
+        refusal: ACCEPTED,
+        player: p.after_take(Way::Redo),
+    }
 }

@@ -1,10 +1,11 @@
 -- A name that a call hands out has 24 bytes, so that row 13 declines exactly the outputs of another length. Assumes nothing.
 use Prim.Native.Nat.{ℕ, _+_, _*_, _<_, _≤_}
-use mathlib.Core.List.{List}
+use mathlib.Core.Bool.{Bool, true, false, cond}
+use mathlib.Core.List.{List, []}
 use mathlib.Core.Path.{_≡_, refl}
 use native.Mathlib.Omega.{arith}
-use borrow.Author.Tests.{ltb-true}
-use lib.Dec.{ltb}
+use borrow.Author.Tests.{ltb-true, eqb-true}
+use lib.Dec.{eqb, ltb}
 use lib.ListN.{length, length-take, length-drop}
 use lib.Ieee.{Float}
 use Rattle.laws.specs.Rows.{declines, held, first-held}
@@ -63,3 +64,14 @@ texture-long s b p ks m slot e =
     rw e
     (texture-of-long s b (ks .frames) (ks .values) (ks .slopes) (activeIn (viewOf p)) m slot (checked s (k .0 .0)) (checked-book b (k .0 .1 .0)) (ltb-true _ _ (q .0))
     (ltb-true _ _ (q .1)))
+
+-- and a texture name of that length is not declined
+pub texture-given : (s b : List ℕ) (p : Player) (ks : Keys) (m slot : ℕ) {name : List ℕ} → name ≡ textureNameOf s b p ks m slot → length name ≡ nameBytes
+    → declines (textureNameTable s b p ks m slot) ≡ 0
+unfolding textureNameOf
+texture-given s b p ks m slot q l = go (eqb (declines (textureNameTable s b p ks m slot)) 0) refl (rw q at l)
+  where
+    go : (d : Bool) → eqb (declines (textureNameTable s b p ks m slot)) 0 ≡ d → length (cond d (textureOf s b (ks .frames) (ks .values) (ks .slopes) (activeIn (viewOf p)) m slot) []) ≡ nameBytes
+        → declines (textureNameTable s b p ks m slot) ≡ 0
+    go true e h = eqb-true _ 0 e
+    go false e h = absurd (omega arith)

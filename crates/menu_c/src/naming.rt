@@ -1,9 +1,13 @@
 // Names, which the calls of `menu` hand back as a part of the sheet or of the book, copied into a lent output.
+use channel::MATERIAL_LAYERS;
 use field::NAME_BYTES;
 use laws::refusal::ACCEPTED;
 use laws::refusal::NO_ANIMATION;
+use laws::refusal::NO_SUCH_ROW;
 use laws::refusal::OUTPUT_LENGTH;
 use laws::refusal::SHEET_LAYOUT;
+use menu_checks::check_book;
+use menu_checks::check_state;
 use player::Player;
 ghost use mathlib.Core.Path.{_≡_};
 ghost use lib.ListN.{length};
@@ -63,9 +67,17 @@ fn slot_refusal(
 ) -> u8
     ensures { λ n. ⌜ n ≡ declines (textureNameTable (now (s .entry)) (now (b .entry)) p (lent (frames .entry) (values .entry) (slopes .entry)) material slot) ⌝ }
 {
-    let c = channel::slot_channel(slot);
-    let g = menu_readings::read_material(p, s, b, frames, values, slopes, material, c);
-    g.refusal
+    let first = check_book(s, b, frames, values, slopes);
+    let n = check_state(first, p, s, frames, values, slopes);
+    if n != ACCEPTED {
+        return n;
+    }
+    let i = material as usize;
+    let k = slot as usize;
+    if !((i < book::material_count(b)) & (k < MATERIAL_LAYERS)) {
+        return NO_SUCH_ROW;
+    }
+    ACCEPTED
 }
 
 // The name of a material's texture slot, into 24 bytes. Refusals 1 to 5, 7, 13.
@@ -83,12 +95,19 @@ pub extern "C" fn menu_texture_name<'a>(
 ) -> u8
     ensures { λ r. ⌜ wrote r (now (out .exit)) ≡ textureNameInto (now (sheet .entry)) (now (book .entry)) player (lent (frames .entry) (values .entry) (slopes .entry)) material slot (now (out .entry)) ⌝ }
 {
-    let n = slot_refusal(player, sheet, book, frames, values, slopes, material, slot);
-    if n != ACCEPTED {
-        return n;
+    let name = menu_readings::texture_name(
+        player,
+        sheet,
+        book,
+        frames,
+        values,
+        slopes,
+        material,
+        slot,
+    );
+    // Empty where the call is declined: only then is its number asked for, since that checks all again.
+    if name.len() == NAME_BYTES {
+        return hand_out(name, out);
     }
-    hand_out(
-        menu_readings::texture_name(player, sheet, book, frames, values, slopes, material, slot),
-        out,
-    )
+    slot_refusal(player, sheet, book, frames, values, slopes, material, slot)
 }

@@ -1,9 +1,9 @@
--- What the rows that calls share tell where each holds, and how a call's own rows follow them. Assumes nothing.
+-- What the rows that calls share tell where each holds, how they are asked in two parts, and how a call's own rows follow them. Assumes nothing.
 use Prim.Native.Nat.{ℕ}
-use mathlib.Core.Path.{_≡_, sym, _∙_}
-use mathlib.Core.Bool.{true, cond}
+use mathlib.Core.Path.{_≡_, refl, sym, _∙_}
+use mathlib.Core.Bool.{Bool, true, false, cond}
 use mathlib.Core.List.{List, [], _++_}
-use borrow.Author.Tests.{eqb-true, ne-eqb}
+use borrow.Author.Tests.{eqb-true, eqb-false, ne-eqb}
 use lib.Dec.{T, eqb}
 use lib.ListN.{length}
 use lib.Ieee.{Float}
@@ -25,7 +25,7 @@ use Rattle.player.specs.Takes.{Takeable, entry-used}
 use Rattle.player.specs.Ticked.{Selected}
 use Rattle.player.specs.Drag.{dragFits}
 use Rattle.player.specs.Dragged.{Draggable}
-use Rattle.menu_checks.specs.Rows.{brokenRows, playerRows, keysRows, stateRows, bookRows, readingRows}
+use Rattle.menu_checks.specs.Rows.{sheetRows, ownRows, brokenRows, playerRows, keysRows, stateRows, bookRows, readingRows, behind}
 
 -- ---- calls that take sheet and player
 pub record PlayerReady (s : List ℕ) (p : Player) : Type 0 where
@@ -93,7 +93,10 @@ reading-ready s b p fs vs ss more e z =
       player = sound s p (hold-at 5 (brokenRows s p (keys fs vs ss)) (search row-in) (first-held (brokenRows s p (keys fs vs ss)) more tt (k .1) .0));
     }
 
--- ---- sheet and keys alone, behind which row 5 is looked at
+-- ---- the sheet alone, or sheet and keys, behind which row 5 is looked at
+pub sheet-ready : (s : List ℕ) {n : ℕ} → n ≡ declines (sheetRows s) → n ≡ 0 → Checked s
+sheet-ready s e z = checked s (held-at 1 (sheetRows s) (search row-in) tt (sym e ∙ z))
+
 pub record KeysReady (s : List ℕ) (ks : Keys) : Type 0 where
   pub sheet : Checked s
   pub rules : keysOkOf s ks ≡ true
@@ -112,53 +115,69 @@ book-ready s b fs vs ss e z = rows-ready (bookRows s b (keys fs vs ss)) (search 
 pub held-open : {s : List ℕ} {ks : Keys} (p : Player) → KeysReady s ks → playerOk s p ≡ true → Draggable s ks (p .drag)
 held-open {s} p w e = record { sheet = w .sheet; rules = w .rules; row = sound s p e .drag }
 
--- ---- a call's own rows behind those that it shares: its list stops with them, or goes on. `stops` and `goes` for each list that calls share, since
--- `search` finds where a named list ends in one that has computed, and not where any list does.
-module _ (s : List ℕ) (fs vs ss : List Float) (more : List Row) {n : ℕ} (e : n ≡ declines (keysRows s (keys fs vs ss))) where
-  pub keys-stops : (n ≡ 0 → ⊥) → n ≡ declines (keysRows s (keys fs vs ss) ++ more)
-  keys-stops d = stops (keysRows s (keys fs vs ss)) more e d
+-- ---- a call's own rows, asked by what those before them declined with
+pub behind-stops : {n : ℕ} (m : ℕ) → (n ≡ 0 → ⊥) → n ≡ behind n m
+unfolding behind
+behind-stops {n} m d = rw (ne-eqb n 0 d)
 
-  pub keys-goes : {m : ℕ} → n ≡ 0 → m ≡ declines more → m ≡ declines (keysRows s (keys fs vs ss) ++ more)
-  keys-goes z h = goes (keysRows s (keys fs vs ss)) more tt e z h
+pub behind-goes : {n m k : ℕ} → n ≡ 0 → k ≡ m → k ≡ behind n m
+unfolding behind
+behind-goes z h = rw z h
 
-module _ (s b : List ℕ) (fs vs ss : List Float) (more : List Row) {n : ℕ} (e : n ≡ declines (bookRows s b (keys fs vs ss))) where
-  pub book-stops : (n ≡ 0 → ⊥) → n ≡ declines (bookRows s b (keys fs vs ss) ++ more)
-  book-stops d = stops (bookRows s b (keys fs vs ss)) more e d
+-- what closes a `return` of such a function
+pub ruleset behind-laws = (row-laws, behind-stops, behind-goes)
 
-  pub book-goes : {m : ℕ} → n ≡ 0 → m ≡ declines more → m ≡ declines (bookRows s b (keys fs vs ss) ++ more)
-  book-goes z h = goes (bookRows s b (keys fs vs ss)) more tt e z h
+-- nothing is declined by either
+pub behind-none : {n m k : ℕ} → k ≡ behind n m → k ≡ 0 → (n ≡ 0) × (m ≡ 0)
+unfolding behind
+behind-none {n} {m} {k} e z = go (eqb n 0) refl e
+  where
+    go : (b : Bool) → eqb n 0 ≡ b → k ≡ cond b m n → (n ≡ 0) × (m ≡ 0)
+    go true q h = (eqb-true n 0 q, sym h ∙ z)
+    go false q h = absurd (eqb-false n 0 q (sym h ∙ z))
 
-module _ (s : List ℕ) (p : Player) (more : List Row) {n : ℕ} (e : n ≡ declines (playerRows s p)) where
-  pub player-stops : (n ≡ 0 → ⊥) → n ≡ declines (playerRows s p ++ more)
-  player-stops d = stops (playerRows s p) more e d
+-- the whole list's number
+behind-rows : (rs more : List Row) {n k : ℕ} → T (numbered rs) → n ≡ declines rs → k ≡ behind n (declines more) → k ≡ declines (rs ++ more)
+unfolding behind
+behind-rows rs more {n} {k} t e h = go (eqb n 0) refl h
+  where
+    go : (b : Bool) → eqb n 0 ≡ b → k ≡ cond b (declines more) n → k ≡ declines (rs ++ more)
+    go true q g = goes rs more t e (eqb-true n 0 q) g
+    go false q g = g ∙ stops rs more e (eqb-false n 0 q)
 
-  pub player-goes : {m : ℕ} → n ≡ 0 → m ≡ declines more → m ≡ declines (playerRows s p ++ more)
-  player-goes z h = goes (playerRows s p) more tt e z h
+-- ---- the lists that calls share, by their two checks
+pub player-by : (s : List ℕ) (p : Player) {n k : ℕ} → n ≡ declines (sheetRows s) → k ≡ behind n (declines (ownRows s p)) → k ≡ declines (playerRows s p)
+player-by s p e h = behind-rows (sheetRows s) (ownRows s p) tt e h
 
-module _ (s : List ℕ) (p : Player) (fs vs ss : List Float) (more : List Row) {n : ℕ} (e : n ≡ declines (stateRows s p (keys fs vs ss))) where
-  pub state-stops : (n ≡ 0 → ⊥) → n ≡ declines (stateRows s p (keys fs vs ss) ++ more)
-  state-stops d = stops (stateRows s p (keys fs vs ss)) more e d
+pub state-by : (s : List ℕ) (p : Player) (fs vs ss : List Float) {n k : ℕ} → n ≡ declines (keysRows s (keys fs vs ss)) → k ≡ behind n (declines (brokenRows s p (keys fs vs ss)))
+    → k ≡ declines (stateRows s p (keys fs vs ss))
+state-by s p fs vs ss e h = behind-rows (keysRows s (keys fs vs ss)) (brokenRows s p (keys fs vs ss)) tt e h
 
-  pub state-goes : {m : ℕ} → n ≡ 0 → m ≡ declines more → m ≡ declines (stateRows s p (keys fs vs ss) ++ more)
-  state-goes z h = goes (stateRows s p (keys fs vs ss)) more tt e z h
+pub reading-by : (s b : List ℕ) (p : Player) (fs vs ss : List Float) {n k : ℕ} → n ≡ declines (bookRows s b (keys fs vs ss)) → k ≡ behind n (declines (brokenRows s p (keys fs vs ss)))
+    → k ≡ declines (readingRows s b p (keys fs vs ss))
+reading-by s b p fs vs ss e h = behind-rows (bookRows s b (keys fs vs ss)) (brokenRows s p (keys fs vs ss)) tt e h
+
+-- ---- and a call's own rows behind them
+pub player-behind : (s : List ℕ) (p : Player) (more : List Row) {n k : ℕ} → n ≡ declines (playerRows s p) → k ≡ behind n (declines more) → k ≡ declines (playerRows s p ++ more)
+player-behind s p more e h = behind-rows (playerRows s p) more tt e h
+
+pub state-behind : (s : List ℕ) (p : Player) (fs vs ss : List Float) (more : List Row) {n k : ℕ} → n ≡ declines (stateRows s p (keys fs vs ss)) → k ≡ behind n (declines more)
+    → k ≡ declines (stateRows s p (keys fs vs ss) ++ more)
+state-behind s p fs vs ss more e h = behind-rows (stateRows s p (keys fs vs ss)) more tt e h
 
 module _ (s b : List ℕ) (p : Player) (fs vs ss : List Float) (more : List Row) {n : ℕ} (e : n ≡ declines (readingRows s b p (keys fs vs ss))) where
+  pub reading-behind : {k : ℕ} → k ≡ behind n (declines more) → k ≡ declines (readingRows s b p (keys fs vs ss) ++ more)
+  reading-behind h = behind-rows (readingRows s b p (keys fs vs ss)) more tt e h
+
+  -- the readings that ask their own rows themselves. `stops` and `goes` are said again for this list, since `search` finds where a named list ends in one that
+  -- has computed, and not where any list does.
   pub reading-stops : (n ≡ 0 → ⊥) → n ≡ declines (readingRows s b p (keys fs vs ss) ++ more)
   reading-stops d = stops (readingRows s b p (keys fs vs ss)) more e d
 
   pub reading-goes : {m : ℕ} → n ≡ 0 → m ≡ declines more → m ≡ declines (readingRows s b p (keys fs vs ss) ++ more)
   reading-goes z h = goes (readingRows s b p (keys fs vs ss)) more tt e z h
 
--- what closes a `return` of a check, by the rows that it shares
-pub ruleset after-keys = (row-laws, keys-stops, keys-goes)
-
-pub ruleset after-book = (row-laws, book-stops, book-goes)
-
-pub ruleset after-player = (row-laws, player-stops, player-goes)
-
-pub ruleset after-state = (row-laws, state-stops, state-goes)
-
-pub ruleset after-reading = (row-laws, reading-stops, reading-goes)
+pub ruleset after-reading = (row-laws, reading-by, reading-stops, reading-goes)
 
 -- ---- names: empty where the call is declined
 pub name-refused : {n m : ℕ} (x : List ℕ) → n ≡ m → (n ≡ 0 → ⊥) → [] ≡ cond (eqb m 0) x []

@@ -1,6 +1,8 @@
 -- The rows of document 01's table "What a call declines" (with document 02's, 2/13) that look at what calls take, whatever they do. A call's own rows follow them. Definitions only.
 use Prim.Native.Nat.{ℕ}
+use mathlib.Core.Bool.{cond}
 use mathlib.Core.List.{List, [], _∷_, _++_}
+use lib.Dec.{eqb}
 use Rattle.laws.specs.Rows.{Row, row}
 use Rattle.sheet.specs.Sheet.{sheetOk}
 use Rattle.book.specs.Book.{bookOk}
@@ -14,7 +16,14 @@ use Rattle.player.specs.Drag.{dragFits}
 abbrev pub arrayRows : List ℕ → Keys → List Row
 arrayRows s ks = lentRows s (ks .frames) (ks .values) (ks .slopes)
 
--- sheet and player: row 5 as far as it looks at the player alone
+-- the sheet alone, and a player's row as far as it looks at the player alone
+abbrev pub sheetRows : List ℕ → List Row
+sheetRows s = row 1 (sheetOk s) ∷ []
+
+abbrev pub ownRows : List ℕ → Player → List Row
+ownRows s p = row 5 (playerOk s p) ∷ []
+
+-- sheet and player
 abbrev pub playerRows : List ℕ → Player → List Row
 playerRows s p = row 1 (sheetOk s) ∷ row 5 (playerOk s p) ∷ []
 
@@ -35,3 +44,8 @@ bookRows s b ks = row 1 (sheetOk s) ∷ row 2 (bookOk b) ∷ arrayRows s ks
 
 abbrev pub readingRows : List ℕ → List ℕ → Player → Keys → List Row
 readingRows s b p ks = bookRows s b ks ++ brokenRows s p ks
+
+-- what two parts of a list decline with, by what each does: the first part's number, and where that is 0 the second's. So a call's own rows are asked by a
+-- function that takes the number n of those before them, and not all that these look at.
+unfoldable pub behind : ℕ → ℕ → ℕ
+behind n m = cond (eqb n 0) m n

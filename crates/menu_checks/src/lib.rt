@@ -1,4 +1,6 @@
-// The rows of the table that look at what a call takes, whatever it does: 1 the sheet, 2 the book, 3 and 4 the keys, 5 the player.
+// The rows of the table that look at what a call takes, whatever it does: 1 the sheet, 2 the book, 3 and 4 the keys, 5 the player. The player's row is asked
+// behind n, what the rows before it declined with, and by the outward function itself, which owns the player: the check then reads it where it is, and it
+// isn't copied.
 use laws::refusal::ACCEPTED;
 use laws::refusal::BOOK_LAYOUT;
 use laws::refusal::BROKEN_STATE;
@@ -6,23 +8,22 @@ use laws::refusal::SHEET_LAYOUT;
 use player::Player;
 ghost use mathlib.Core.Path.{_≡_};
 ghost use Rattle.laws.specs.Rows.{declines};
+ghost use Rattle.sheet.specs.Checked.{Checked};
 ghost use Rattle.edit.specs.Keys.{lent};
-ghost use Rattle.menu_checks.specs.Rows.{playerRows, keysRows, stateRows, bookRows, readingRows};
+ghost use Rattle.menu_checks.specs.Rows.{sheetRows, ownRows, brokenRows, keysRows, bookRows, behind};
+ghost use Rattle.menu_checks.specs.Checks.{KeysReady};
 
-// Rows 1 and 5, and 0 where neither declines.
-pub fn check_player(p: Player, s: &[u8]) -> u8
-    ensures { λ r. ⌜ r ≡ declines (playerRows (now (s .entry)) p) ⌝ }
+// Row 1.
+pub fn check_sheet(s: &[u8]) -> u8
+    ensures { λ r. ⌜ r ≡ declines (sheetRows (now (s .entry))) ⌝ }
 {
     if !sheet::sheet_ok(s) {
         return SHEET_LAYOUT;
     }
-    if !p.ok(s) {
-        return BROKEN_STATE;
-    }
     ACCEPTED
 }
 
-// Rows 1, 3 and 4: sheet and keys, with no player.
+// Rows 1, 3 and 4: sheet and keys.
 pub fn check_keys(s: &[u8], frames: &[f32], values: &[f32], slopes: &[f32]) -> u8
     ensures { λ r. ⌜ r ≡ declines (keysRows (now (s .entry)) (lent (frames .entry) (values .entry) (slopes .entry))) ⌝ }
 {
@@ -32,25 +33,7 @@ pub fn check_keys(s: &[u8], frames: &[f32], values: &[f32], slopes: &[f32]) -> u
     keys::lent_refusal(s, frames, values, slopes)
 }
 
-// Rows 1, 3, 4 and 5.
-pub fn check_state(p: Player, s: &[u8], frames: &[f32], values: &[f32], slopes: &[f32]) -> u8
-    ensures { λ r. ⌜ r ≡ declines (stateRows (now (s .entry)) p (lent (frames .entry) (values .entry) (slopes .entry))) ⌝ }
-{
-    let n = check_keys(s, frames, values, slopes);
-    if n != ACCEPTED {
-        return n;
-    }
-    let d = p.drag;
-    if !p.ok(s) {
-        return BROKEN_STATE;
-    }
-    if !d.fits(s, frames, values, slopes) {
-        return BROKEN_STATE;
-    }
-    ACCEPTED
-}
-
-// Rows 1 to 4: sheet, book and keys, with no player.
+// Rows 1 to 4: sheet, book and keys.
 pub fn check_book(s: &[u8], b: &[u8], frames: &[f32], values: &[f32], slopes: &[f32]) -> u8
     ensures { λ r. ⌜ r ≡ declines (bookRows (now (s .entry)) (now (b .entry)) (lent (frames .entry) (values .entry) (slopes .entry))) ⌝ }
 {
@@ -63,23 +46,36 @@ pub fn check_book(s: &[u8], b: &[u8], frames: &[f32], values: &[f32], slopes: &[
     keys::lent_refusal(s, frames, values, slopes)
 }
 
-// Rows 1 to 5.
-pub fn check_reading(
-    p: Player,
-    s: &[u8],
-    b: &[u8],
-    frames: &[f32],
-    values: &[f32],
-    slopes: &[f32],
-) -> u8
-    ensures { λ r. ⌜ r ≡ declines (readingRows (now (s .entry)) (now (b .entry)) p (lent (frames .entry) (values .entry) (slopes .entry))) ⌝ }
+// Row 5 of a call that takes no keys, behind n.
+pub fn check_player(n: u8, p: Player, s: &[u8]) -> u8
+    requires { ⌜ (n ≡ 0 → Checked (now s)) ⌝ }
+    ensures { λ r. ⌜ r ≡ behind n (declines (ownRows (now (s .entry)) p)) ⌝ }
 {
-    let n = check_book(s, b, frames, values, slopes);
+    if n != ACCEPTED {
+        return n;
+    }
+    if !p.numbers_ok(s) {
+        return BROKEN_STATE;
+    }
+    if !p.used_ok(s) {
+        return BROKEN_STATE;
+    }
+    ACCEPTED
+}
+
+// Row 5 of a call that takes keys, behind n.
+pub fn check_state(n: u8, p: Player, s: &[u8], frames: &[f32], values: &[f32], slopes: &[f32]) -> u8
+    requires { ⌜ (n ≡ 0 → KeysReady (now s) (lent frames values slopes)) ⌝ }
+    ensures { λ r. ⌜ r ≡ behind n (declines (brokenRows (now (s .entry)) p (lent (frames .entry) (values .entry) (slopes .entry)))) ⌝ }
+{
     if n != ACCEPTED {
         return n;
     }
     let d = p.drag;
-    if !p.ok(s) {
+    if !p.numbers_ok(s) {
+        return BROKEN_STATE;
+    }
+    if !p.used_ok(s) {
         return BROKEN_STATE;
     }
     if !d.fits(s, frames, values, slopes) {

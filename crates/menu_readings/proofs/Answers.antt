@@ -24,7 +24,8 @@ use Rattle.player.specs.declared.Player.{Player}
 use Rattle.edit.specs.Keys.{keys}
 use Rattle.edit.specs.Edit.{none}
 use Rattle.player.specs.Parts.{View, viewOf}
-use Rattle.menu_checks.specs.Rows.{readingRows}
+use Rattle.menu_checks.specs.Rows.{readingRows, behind}
+use Rattle.menu_checks.specs.Checks.{reading-behind}
 use Rattle.menu_readings.specs.Rows.{tablesRows, cascadeRows, readAllTable, cascadeTable}
 use Rattle.menu_readings.specs.Readings.{cascadedOf, gaveCascade, cascadeOf, oneOf, paneOf, layerOf, noPane, noLayer, activeIn, tablesOf, gaveTables, readAllOf}
 use Rattle.menu_readings.specs.declared.single.ReadOne.{ReadOne}
@@ -56,6 +57,11 @@ module _ (v : View) where
       pick b c h k = rw (h, k)
 
 -- ---- the whole reading
+pub tables-table : (s b : List ℕ) (p : Player) (fs vs ss : List Float) (marks : List ℕ) (numbers : List Float) {n m : ℕ} → n ≡ declines (readingRows s b p (keys fs vs ss))
+    → m ≡ behind n (declines (tablesRows b marks numbers)) → m ≡ declines (readAllTable s b p (keys fs vs ss) marks numbers)
+unfolding readAllTable
+tables-table s b p fs vs ss marks numbers e h = reading-behind s b p fs vs ss _ e h
+
 module _ (s b : List ℕ) (p : Player) (fs vs ss : List Float) (marks : List ℕ) (numbers : List Float) (n : ℕ) (e : n ≡ declines (readAllTable s b p (keys fs vs ss) marks numbers)) where
   pub tables-refused : (n ≡ 0 → ⊥) → gaveTables n marks numbers ≡ readAllOf s b p (keys fs vs ss) marks numbers
   unfolding readAllOf tablesOf
@@ -133,6 +139,11 @@ pub one-below : (i : ℕ) {k p : ℕ} → k ≡ p → not (ltb i k) ≡ false �
 one-below i {k} {p} e t = ltb-true i p (one-yes i e t)
 
 -- ---- the cascade
+pub cascade-table : (s b : List ℕ) (p : Player) (fs vs ss : List Float) (visible : List ℕ) (alpha influence : List Float) {n m : ℕ} → n ≡ declines (readingRows s b p (keys fs vs ss))
+    → m ≡ behind n (declines (cascadeRows b visible alpha influence)) → m ≡ declines (cascadeTable s b p (keys fs vs ss) visible alpha influence)
+unfolding cascadeTable
+cascade-table s b p fs vs ss visible alpha influence e h = reading-behind s b p fs vs ss _ e h
+
 module _ (s b : List ℕ) (p : Player) (fs vs ss : List Float) (visible : List ℕ) (alpha influence : List Float) (n : ℕ) (e : n ≡ declines (cascadeTable s b p (keys fs vs ss) visible alpha influence)) where
   pub cascade-refused : (n ≡ 0 → ⊥) → gaveCascade n visible alpha influence ≡ cascadeOf s b p (keys fs vs ss) visible alpha influence
   unfolding cascadeOf cascadedOf

@@ -2,28 +2,22 @@
 use crate::active_in;
 use laws::refusal::ACCEPTED;
 use laws::refusal::OUTPUT_LENGTH;
-use menu_checks::check_reading;
+use menu_checks::check_book;
+use menu_checks::check_state;
 use player::Player;
 ghost use mathlib.Core.Path.{_≡_};
 ghost use Rattle.laws.specs.Rows.{declines};
 ghost use Rattle.edit.specs.Keys.{lent};
-ghost use Rattle.menu_readings.specs.Rows.{cascadeTable};
+ghost use Rattle.book.specs.Checked.{CheckedBook};
+ghost use Rattle.menu_checks.specs.Rows.{behind};
+ghost use Rattle.menu_readings.specs.Rows.{cascadeRows};
 ghost use Rattle.menu_readings.specs.Readings.{gaveCascade, cascadeOf};
 
-fn cascade_refusal(
-    p: Player,
-    s: &[u8],
-    b: &[u8],
-    frames: &[f32],
-    values: &[f32],
-    slopes: &[f32],
-    visible: &[u8],
-    alpha: &[f32],
-    influence: &[f32],
-) -> u8
-    ensures { λ n. ⌜ n ≡ declines (cascadeTable (now (s .entry)) (now (b .entry)) p (lent (frames .entry) (values .entry) (slopes .entry)) (now (visible .entry)) (now (alpha .entry)) (now (influence .entry))) ⌝ }
+// Row 13, behind n.
+fn cascade_refusal(n: u8, b: &[u8], visible: &[u8], alpha: &[f32], influence: &[f32]) -> u8
+    requires { ⌜ (n ≡ 0 → CheckedBook (now b)) ⌝ }
+    ensures { λ r. ⌜ r ≡ behind n (declines (cascadeRows (now (b .entry)) (now (visible .entry)) (now (alpha .entry)) (now (influence .entry)))) ⌝ }
 {
-    let n = check_reading(p, s, b, frames, values, slopes);
     if n != ACCEPTED {
         return n;
     }
@@ -48,9 +42,11 @@ pub fn cascade(
 ) -> u8
     ensures { λ n. ⌜ gaveCascade n (now (visible .exit)) (now (alpha .exit)) (now (influence .exit)) ≡ cascadeOf (now (s .entry)) (now (b .entry)) p (lent (frames .entry) (values .entry) (slopes .entry)) (now (visible .entry)) (now (alpha .entry)) (now (influence .entry)) ⌝ }
 {
-    let n = cascade_refusal(p, s, b, frames, values, slopes, visible, alpha, influence);
-    if n != ACCEPTED {
-        return n;
+    let first = check_book(s, b, frames, values, slopes);
+    let n = check_state(first, p, s, frames, values, slopes);
+    let m = cascade_refusal(n, b, visible, alpha, influence);
+    if m != ACCEPTED {
+        return m;
     }
     resolve::cascade(
         s,

@@ -6,7 +6,8 @@ use float::Vector2;
 use float::Vector3;
 use laws::refusal::ACCEPTED;
 use laws::refusal::NO_SUCH_ROW;
-use menu_checks::check_reading;
+use menu_checks::check_book;
+use menu_checks::check_state;
 use player::Player;
 use resolve::Transform;
 ghost use mathlib.Core.Path.{_≡_};
@@ -69,7 +70,8 @@ pub fn resolve_pane(
 ) -> ResolvedPane
     ensures { λ r. ⌜ r ≡ resolvePaneOf (now (s .entry)) (now (b .entry)) p (lent (frames .entry) (values .entry) (slopes .entry)) pane ⌝ }
 {
-    let n = check_reading(p, s, b, frames, values, slopes);
+    let first = check_book(s, b, frames, values, slopes);
+    let n = check_state(first, p, s, frames, values, slopes);
     if n != ACCEPTED {
         return no_pane(n);
     }
@@ -114,7 +116,8 @@ pub fn resolve_srt(
 ) -> ResolvedSrt
     ensures { λ r. ⌜ r ≡ resolveSrtOf (now (s .entry)) (now (b .entry)) p (lent (frames .entry) (values .entry) (slopes .entry)) material layer ⌝ }
 {
-    let n = check_reading(p, s, b, frames, values, slopes);
+    let first = check_book(s, b, frames, values, slopes);
+    let n = check_state(first, p, s, frames, values, slopes);
     if n != ACCEPTED {
         return no_srt(n);
     }
@@ -143,7 +146,8 @@ pub fn texture_name<'a>(
 ) -> &'a [u8]
     ensures { λ r. ⌜ now r ≡ textureNameOf (now (s .entry)) (now (b .entry)) p (lent (frames .entry) (values .entry) (slopes .entry)) material slot ⌝ }
 {
-    let n = check_reading(p, s, b, frames, values, slopes);
+    let first = check_book(s, b, frames, values, slopes);
+    let n = check_state(first, p, s, frames, values, slopes);
     if n != ACCEPTED {
         return &s[0..0];
     }

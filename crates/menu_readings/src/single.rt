@@ -4,7 +4,8 @@ use channel::MATERIAL_CHANNELS;
 use channel::PANE_CHANNELS;
 use laws::refusal::ACCEPTED;
 use laws::refusal::NO_SUCH_ROW;
-use menu_checks::check_reading;
+use menu_checks::check_book;
+use menu_checks::check_state;
 use player::Player;
 use reading::Reading;
 ghost use mathlib.Core.Path.{_≡_};
@@ -30,7 +31,8 @@ pub fn read_pane(
 ) -> ReadOne
     ensures { λ r. ⌜ r ≡ readPaneOf (now (s .entry)) (now (b .entry)) p (lent (frames .entry) (values .entry) (slopes .entry)) pane channel ⌝ }
 {
-    let n = check_reading(p, s, b, frames, values, slopes);
+    let first = check_book(s, b, frames, values, slopes);
+    let n = check_state(first, p, s, frames, values, slopes);
     if n != ACCEPTED {
         return ReadOne {
             refusal: n,
@@ -65,7 +67,8 @@ pub fn read_material(
 ) -> ReadOne
     ensures { λ r. ⌜ r ≡ readMaterialOf (now (s .entry)) (now (b .entry)) p (lent (frames .entry) (values .entry) (slopes .entry)) material channel ⌝ }
 {
-    let n = check_reading(p, s, b, frames, values, slopes);
+    let first = check_book(s, b, frames, values, slopes);
+    let n = check_state(first, p, s, frames, values, slopes);
     if n != ACCEPTED {
         return ReadOne {
             refusal: n,

@@ -2,27 +2,22 @@
 use crate::active_in;
 use laws::refusal::ACCEPTED;
 use laws::refusal::OUTPUT_LENGTH;
-use menu_checks::check_reading;
+use menu_checks::check_book;
+use menu_checks::check_state;
 use player::Player;
 ghost use mathlib.Core.Path.{_≡_};
 ghost use Rattle.laws.specs.Rows.{declines};
 ghost use Rattle.edit.specs.Keys.{lent};
-ghost use Rattle.menu_readings.specs.Rows.{readAllTable};
+ghost use Rattle.book.specs.Checked.{CheckedBook};
+ghost use Rattle.menu_checks.specs.Rows.{behind};
+ghost use Rattle.menu_readings.specs.Rows.{tablesRows};
 ghost use Rattle.menu_readings.specs.Readings.{gaveTables, readAllOf};
 
-fn read_all_refusal(
-    p: Player,
-    s: &[u8],
-    b: &[u8],
-    frames: &[f32],
-    values: &[f32],
-    slopes: &[f32],
-    marks: &[u8],
-    numbers: &[f32],
-) -> u8
-    ensures { λ n. ⌜ n ≡ declines (readAllTable (now (s .entry)) (now (b .entry)) p (lent (frames .entry) (values .entry) (slopes .entry)) (now (marks .entry)) (now (numbers .entry))) ⌝ }
+// Row 13, behind n.
+fn read_all_refusal(n: u8, b: &[u8], marks: &[u8], numbers: &[f32]) -> u8
+    requires { ⌜ (n ≡ 0 → CheckedBook (now b)) ⌝ }
+    ensures { λ r. ⌜ r ≡ behind n (declines (tablesRows (now (b .entry)) (now (marks .entry)) (now (numbers .entry)))) ⌝ }
 {
-    let n = check_reading(p, s, b, frames, values, slopes);
     if n != ACCEPTED {
         return n;
     }
@@ -46,9 +41,11 @@ pub fn read_all(
 ) -> u8
     ensures { λ n. ⌜ gaveTables n (now (marks .exit)) (now (numbers .exit)) ≡ readAllOf (now (s .entry)) (now (b .entry)) p (lent (frames .entry) (values .entry) (slopes .entry)) (now (marks .entry)) (now (numbers .entry)) ⌝ }
 {
-    let n = read_all_refusal(p, s, b, frames, values, slopes, marks, numbers);
-    if n != ACCEPTED {
-        return n;
+    let first = check_book(s, b, frames, values, slopes);
+    let n = check_state(first, p, s, frames, values, slopes);
+    let m = read_all_refusal(n, b, marks, numbers);
+    if m != ACCEPTED {
+        return m;
     }
     reading::read_all(s, b, frames, values, slopes, active_in(p), marks, numbers);
     ACCEPTED

@@ -1,8 +1,9 @@
 -- The player's state (document 01, "Playing and editing"; document 02, 2/13), and when it is broken (row 5 of the table). Assumes nothing.
-use Prim.Native.Nat.{ℕ, _+_, _-_, _^_}
+use Prim.Native.Nat.{ℕ, _+_, _-_, _%_, _^_}
 use mathlib.Core.Bool.{Bool, _&&_, _||_}
 use mathlib.Core.List.{List}
 use lib.Dec.{eqb, leb, ltb}
+use lib.ListN.{getD}
 use Rattle.float.specs.Numbers.{finite}
 use Rattle.laws.specs.Below.{allBelow}
 use Rattle.sheet.specs.Sizes.{animationCount}
@@ -34,6 +35,10 @@ entryOk s e = hasKey s (e .track) (e .key)
 unfoldable pub usedOk : List ℕ → Journal → ℕ → ℕ → Bool
 usedOk s j first i = entryOk s (rowOf j (first + i))
 
+-- the same of the two lists that a row's track and key stand in
+unfoldable pub namedOk : List ℕ → List ℕ → List ℕ → ℕ → ℕ → Bool
+namedOk s track key first i = hasKey s (getD track ((first + i) % rows) 0) (getD key ((first + i) % rows) 0)
+
 -- the counts: reach + redo at most 128, reach at most standing, each count and standing at most 2^40, accepted + redone = undone + standing
 unfoldable pub countsOk : ℕ → ℕ → ℕ → ℕ → ℕ → ℕ → Bool
 countsOk reach redo accepted undone redone standing =
@@ -53,3 +58,14 @@ playerOk s p =
     && countsOk (p .reach) (p .redo) (p .accepted) (p .undone) (p .redone) (p .standing)
     && allBelow (p .reach + p .redo) (usedOk s (p .journal) (p .standing - p .reach))
     && dragOk s (p .drag)
+
+-- its two parts, as they are asked: the player's own numbers, and then the used rows
+unfoldable pub numbersOk : List ℕ → Player → Bool
+numbersOk s p =
+    selectionOk s (p .selection)
+    && finite (p .frame)
+    && countsOk (p .reach) (p .redo) (p .accepted) (p .undone) (p .redone) (p .standing)
+    && dragOk s (p .drag)
+
+unfoldable pub allUsedOk : List ℕ → Player → Bool
+allUsedOk s p = allBelow (p .reach + p .redo) (usedOk s (p .journal) (p .standing - p .reach))

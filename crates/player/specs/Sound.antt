@@ -1,12 +1,12 @@
 -- What a player whose state is not broken tells (row 5 of the table): its counts are within their bounds, its used rows and its open drag name keys of the sheet. Assumes nothing.
 use Prim.Native.Nat.{ℕ, _+_, _-_, _≤_, _<_}
-use mathlib.Core.Path.{_≡_}
-use mathlib.Core.Bool.{true}
+use mathlib.Core.Path.{_≡_, refl}
+use mathlib.Core.Bool.{Bool, true, false, _&&_, and-true, and-false}
 use mathlib.Core.List.{List}
 use native.Mathlib.Omega.{arith}
 use borrow.Author.Tests.{leb-true, ltb-true, eqb-true, ne-eqb}
 use lib.Dec.{leb, eqb}
-use Rattle.laws.specs.Tests.{both}
+use Rattle.laws.specs.Tests.{both, and-1, and-2}
 use Rattle.laws.specs.Below.{allBelow, all-at}
 use Rattle.float.specs.Numbers.{finite}
 use Rattle.sheet.specs.Sizes.{animationCount}
@@ -14,7 +14,13 @@ use Rattle.player.specs.declared.Player.{Player}
 use Rattle.player.specs.Journal.{rowOf, rows}
 use Rattle.edit.specs.Edit.{none}
 use Rattle.player.specs.Drag.{dragOk}
-use Rattle.player.specs.Player.{most, selectionOk, entryOk, usedOk, countsOk, playerOk}
+use Rattle.player.specs.Player.{most, selectionOk, entryOk, usedOk, countsOk, playerOk, numbersOk, allUsedOk}
+
+-- what stands between two tests doesn't make them hold
+first-not : (a b c : Bool) → (a && c) ≡ false → (a && b && c) ≡ false
+first-not true true c e = e
+first-not true false c e = refl
+first-not false b c e = refl
 
 pub record Counts (reach redo accepted undone redone standing : ℕ) : Type 0 where
   pub room : reach + redo ≤ rows
@@ -43,6 +49,30 @@ counts reach redo accepted undone redone standing e =
       stands = leb-true _ _ (f .1);
       sums = eqb-true _ _ (g .1);
     }
+
+-- the counts of a player whose own numbers hold
+pub own-counts : (s : List ℕ) (p : Player) → numbersOk s p ≡ true → Counts (p .reach) (p .redo) (p .accepted) (p .undone) (p .redone) (p .standing)
+unfolding numbersOk
+own-counts s p e = counts _ _ _ _ _ _ (and-2 (selectionOk s (p .selection) && finite (p .frame)) _ (and-1 _ (dragOk s (p .drag)) e))
+
+-- ---- row 5 by its two parts
+module _ (s : List ℕ) (p : Player) where
+  pub numbers-not : numbersOk s p ≡ false → playerOk s p ≡ false
+  unfolding numbersOk playerOk
+  numbers-not e =
+      first-not (selectionOk s (p .selection) && finite (p .frame) && countsOk (p .reach) (p .redo) (p .accepted) (p .undone) (p .redone) (p .standing))
+      (allBelow (p .reach + p .redo) (usedOk s (p .journal) (p .standing - p .reach))) (dragOk s (p .drag)) e
+
+  pub used-not : allUsedOk s p ≡ false → playerOk s p ≡ false
+  unfolding allUsedOk playerOk
+  used-not e = simp (e, and-false)
+
+  pub parts-hold : numbersOk s p ≡ true → allUsedOk s p ≡ true → playerOk s p ≡ true
+  unfolding numbersOk allUsedOk playerOk
+  parts-hold e u = rw (u, and-true) e
+
+-- what closes a `return` of a check that asks the two
+pub ruleset broken-laws = (numbers-not, used-not, parts-hold)
 
 pub record Sound (s : List ℕ) (p : Player) : Type 0 where
   pub selection : selectionOk s (p .selection) ≡ true

@@ -7,6 +7,7 @@ ghost use mathlib.Core.Path.{_≡_};
 ghost use Prim.Native.Nat.{_<_};
 ghost use Rattle.sheet.specs.Sizes.{animationCount};
 ghost use Rattle.sheet.specs.Checked.{Checked};
+ghost use Rattle.edit.specs.Edit.{none};
 ghost use Rattle.player.specs.Parts.{viewOf, withView};
 ghost use Rattle.player.specs.View.{playView, poseView, ticks, tickSum, countOf, wraps, tickFrame, tickMoves, tickEnds, endOf};
 ghost use Rattle.player.specs.Ticked.{steppedOf, Selected};
@@ -18,13 +19,11 @@ pub struct Stepped {
 }
 
 impl Player {
-    // The animation from its start; play of none does nothing.
+    // The animation from its start.
     pub fn play(mut self, animation: u16) -> Player
+        requires { ⌜ (animation ≡ none → ⊥) ⌝ }
         ensures { λ r. ⌜ r ≡ withView self (playView animation (viewOf self)) ⌝ }
     {
-        if animation == NONE {
-            return self;
-        }
         self.selection = animation;
         self.playing = true;
         self.preview = true;

@@ -1,6 +1,5 @@
 // Whether a player's state is broken: row 5 of the table of refusals, as far as it looks at the player alone.
 use crate::Player;
-use crate::journal::Journal;
 use crate::journal::ROWS;
 use edit::NONE;
 use edit::spot::has_key;
@@ -8,28 +7,27 @@ ghost use mathlib.Core.Path.{_≡_};
 ghost use Prim.Native.Nat.{_+_, _<_, _^_};
 ghost use Rattle.laws.specs.Below.{allBelow};
 ghost use Rattle.sheet.specs.Checked.{Checked};
-ghost use Rattle.player.specs.Player.{selectionOk, countsOk, usedOk, playerOk};
+ghost use mathlib.Core.Bool.{true};
+ghost use Rattle.player.specs.Player.{selectionOk, namedOk, countsOk, numbersOk, allUsedOk};
 
 // The highest that a count goes.
 const MOST: u64 = 1099511627776;
 
-impl Journal {
-    // Whether the n rows from edit number `first` on each name a key of the sheet.
-    fn rows_ok(self, s: &[u8], first: u64, n: u64) -> bool
-        requires { ⌜ Checked (now s) × (first + n < 2 ^ 64) ⌝ }
-        ensures { λ r. ⌜ r ≡ allBelow n (usedOk (now (s .entry)) self first) ⌝ }
-    {
-        let mut i = 0;
-        while i < n {
-            let at = ((first + i) % ROWS) as usize;
-            if has_key(s, self.track[at], self.key[at]) {
-                i += 1;
-            } else {
-                return false;
-            }
+// Whether the n rows from edit number `first` on each name a key of the sheet.
+fn rows_ok(s: &[u8], track: [u16; 128], key: [u16; 128], first: u64, n: u64) -> bool
+    requires { ⌜ Checked (now s) × (first + n < 2 ^ 64) ⌝ }
+    ensures { λ r. ⌜ r ≡ allBelow n (namedOk (now (s .entry)) track key first) ⌝ }
+{
+    let mut i = 0;
+    while i < n {
+        let at = ((first + i) % ROWS) as usize;
+        if has_key(s, track[at], key[at]) {
+            i += 1;
+        } else {
+            return false;
         }
-        true
     }
+    true
 }
 
 fn selection_ok(s: &[u8], selection: u16) -> bool
@@ -64,10 +62,12 @@ fn counts_ok(reach: u64, redo: u64, accepted: u64, undone: u64, redone: u64, sta
     (reach + redo <= ROWS) & (reach <= standing) & (accepted + redone == undone + standing)
 }
 
+// Two questions, so that neither copies the player: its own numbers are read where they are, and of the journal two arrays are taken out.
 impl Player {
-    pub fn ok(self, s: &[u8]) -> bool
+    // The selection, the frame, the counts and the drag.
+    pub fn numbers_ok(self, s: &[u8]) -> bool
         requires { ⌜ Checked (now s) ⌝ }
-        ensures { λ r. ⌜ r ≡ playerOk (now (s .entry)) self ⌝ }
+        ensures { λ r. ⌜ r ≡ numbersOk (now (s .entry)) self ⌝ }
     {
         if !selection_ok(s, self.selection) {
             return false;
@@ -85,15 +85,23 @@ impl Player {
         ) {
             return false;
         }
-        if !self.drag.ok(s) {
-            return false;
-        }
+        self.drag.ok(s)
+    }
+
+    // The journal's used rows.
+    pub fn used_ok(self, s: &[u8]) -> bool
+        requires { ⌜ Checked (now s) × (numbersOk (now s) self ≡ true) ⌝ }
+        ensures { λ r. ⌜ r ≡ allUsedOk (now (s .entry)) self ⌝ }
+    {
         let n = self.reach + self.redo;
-        // No row is used, and the journal need not be copied.
+        // No row is used, and the arrays need not be copied.
         if n == 0 {
             return true;
         }
         let first = self.standing - self.reach;
-        self.journal.rows_ok(s, first, n)
+        let j = self.journal;
+        let track = j.track;
+        let key = j.key;
+        rows_ok(s, track, key, first, n)
     }
 }

@@ -7,7 +7,7 @@ use edit::spot::spot_of;
 ghost use mathlib.Core.Path.{_≡_};
 ghost use Prim.Native.Nat.{_-_};
 ghost use Rattle.edit.specs.Keys.{lent};
-ghost use Rattle.player.specs.Undo.{entriesOf, turned, entryOf, takesOk, takeFits, undonePlayer, redonePlayer, takenPlayer};
+ghost use Rattle.player.specs.Undo.{turned, entryOf, takesOk, takeFits, undonePlayer, redonePlayer, takenPlayer};
 ghost use Rattle.player.specs.Counts.{CanUndo, CanRedo, CanTake};
 ghost use Rattle.player.specs.Takes.{Returnable, Takeable};
 
@@ -43,16 +43,6 @@ fn takes_ok(s: &[u8], frames: &[f32], values: &[f32], slopes: &[f32], e: Entry) 
         return false;
     }
     fits_at(frames, p, e.after)
-}
-
-// How many entries there are to take.
-pub fn entries(way: Way, reach: u64, redo: u64) -> u64
-    ensures { λ r. ⌜ r ≡ entriesOf way reach redo ⌝ }
-{
-    match way {
-        Way::Undo => reach,
-        Way::Redo => redo,
-    }
 }
 
 // Row 5 of an undo or a redo that takes e, the first of n entries: there is none, or it may be taken. While a drag is open, nothing is asked.

@@ -106,6 +106,43 @@ pub extern "C" fn probe_read_frames(
     true
 }
 
+// The checks once and then `times` whole readings, each with a plan of its own.
+#[no_mangle]
+pub extern "C" fn probe_read_times(
+    s: &[u8],
+    b: &[u8],
+    frames: &[f32],
+    values: &[f32],
+    slopes: &[f32],
+    animation: usize,
+    frame: f32,
+    step: f32,
+    times: usize,
+    marks: &mut [u8],
+    numbers: &mut [f32],
+) -> bool {
+    if !can_read_all(s, b, frames, values, slopes, marks.len(), numbers.len()) {
+        return false;
+    }
+    let mut x = frame;
+    let mut k = 0;
+    while k < times {
+        reading::read_all(
+            s,
+            b,
+            frames,
+            values,
+            slopes,
+            Active::At(animation, x),
+            marks,
+            numbers,
+        );
+        x = x + step;
+        k += 1;
+    }
+    true
+}
+
 // Whether it could be read.
 #[no_mangle]
 pub extern "C" fn probe_read_all(

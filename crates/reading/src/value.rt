@@ -27,7 +27,7 @@ fn row_of(n: u16, textures: usize) -> Reading
 }
 
 // What a target of a family reads where its curve's value is v.
-pub fn read_as(f: Family, v: f32, textures: usize) -> Reading
+fn read_as(f: Family, v: f32, textures: usize) -> Reading
     ensures { λ r. ⌜ r ≡ readAs f v (toUnsigned 16 v) textures ⌝ }
 {
     match f {
@@ -68,15 +68,53 @@ pub fn row_reading(
     read_as(family_of(row.code), v, textures)
 }
 
-pub fn mark_of(r: Reading) -> u8
-    ensures { λ m. ⌜ m ≡ markOf r ⌝ }
+fn row_mark(n: u16, textures: usize) -> u8
+    ensures { λ r. ⌜ r ≡ markOf (rowOf n textures) ⌝ }
 {
-    match r {
-        Reading::Nothing => 0,
-        Reading::Number(_) => 1,
-        Reading::Shown(_) => 1,
-        Reading::Row(_) => 1,
-        Reading::Level(_) => 1,
+    if (n as usize) < textures { 1 } else { 0 }
+}
+
+fn row_number(n: u16, textures: usize) -> f32
+    ensures { λ r. ⌜ r ≡ numberOf (rowOf n textures) ⌝ }
+{
+    if (n as usize) < textures {
+        n as f32
+    } else {
+        0.0
+    }
+}
+
+// The mark of what a family reads, with no reading between: a whole reading has hundreds, and an enum goes through memory.
+pub fn mark_as(f: Family, v: f32, textures: usize) -> u8
+    ensures { λ m. ⌜ m ≡ markOf (readAs f v (toUnsigned 16 v) textures) ⌝ }
+{
+    match f {
+        Family::PaneSrt => 1,
+        Family::Visibility => 1,
+        Family::VertexColor => 1,
+        Family::TextureSrt => 1,
+        Family::TexturePattern => row_mark(float::cut_u16(v), textures),
+        Family::IndirectSrt => 1,
+        Family::AlphaCompare => 1,
+        Family::MaterialColor => 1,
+        Family::Other => 0,
+    }
+}
+
+// Its number likewise.
+pub fn number_as(f: Family, v: f32, textures: usize) -> f32
+    ensures { λ x. ⌜ x ≡ numberOf (readAs f v (toUnsigned 16 v) textures) ⌝ }
+{
+    match f {
+        Family::PaneSrt => v,
+        Family::Visibility => { if float::cut_u16(v) != 0 { 1.0 } else { 0.0 } }
+        Family::VertexColor => v / 255.0,
+        Family::TextureSrt => v,
+        Family::TexturePattern => row_number(float::cut_u16(v), textures),
+        Family::IndirectSrt => v,
+        Family::AlphaCompare => v,
+        Family::MaterialColor => level_of(v) as f32,
+        Family::Other => 0.0,
     }
 }
 

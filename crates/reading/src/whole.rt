@@ -1,21 +1,21 @@
 // The whole reading: a mark and a number for each channel of the book, by a plan and one pass over its targets.
 use crate::Active;
-use crate::Reading;
 use crate::plan::MOST_TARGETS;
 use crate::plan::NO_CHANNEL;
 use crate::plan::Plan;
 use crate::plan::plan_of;
-use crate::value::mark_of;
-use crate::value::number_of;
-use crate::value::read_as;
+use crate::value::mark_as;
+use crate::value::number_as;
 use crate::value::row_value;
+use channel::Family;
 use channel::family_of;
 ghost use mathlib.Core.Path.{_≡_};
 ghost use Prim.Native.Nat.{_<_};
 ghost use lib.ListN.{length, set};
+ghost use lib.Ieee.{toUnsigned};
 ghost use Rattle.laws.specs.Table.{table};
 ghost use Rattle.channel.specs.Channel.{channelCount};
-ghost use Rattle.reading.specs.Reading.{markOf, numberOf, marksOf, numbersOf, noMark, noNumber};
+ghost use Rattle.reading.specs.Reading.{readAs, markOf, numberOf, marksOf, numbersOf, noMark, noNumber};
 ghost use Rattle.reading.specs.Ready.{Ready};
 ghost use Rattle.reading.specs.Plan.{Planned};
 ghost use Rattle.reading.specs.declared.Active.the-variants as active;
@@ -43,13 +43,13 @@ fn clear_numbers(out: &mut [f32])
 }
 
 // Both tables are stored, so that a later target that reads nothing takes an earlier override away.
-fn put(marks: &mut [u8], numbers: &mut [f32], c: usize, r: Reading)
+fn put(marks: &mut [u8], numbers: &mut [f32], c: usize, f: Family, v: f32, textures: usize)
     requires { ⌜ (c < length (now marks)) × (c < length (now numbers)) ⌝ }
-    ensures { λ _. ⌜ now (marks .exit) ≡ set (now (marks .entry)) c (markOf r) ⌝ }
-    ensures { λ _. ⌜ now (numbers .exit) ≡ set (now (numbers .entry)) c (numberOf r) ⌝ }
+    ensures { λ _. ⌜ now (marks .exit) ≡ set (now (marks .entry)) c (markOf (readAs f v (toUnsigned 16 v) textures)) ⌝ }
+    ensures { λ _. ⌜ now (numbers .exit) ≡ set (now (numbers .entry)) c (numberOf (readAs f v (toUnsigned 16 v) textures)) ⌝ }
 {
-    marks[c] = mark_of(r);
-    numbers[c] = number_of(r);
+    marks[c] = mark_as(f, v, textures);
+    numbers[c] = number_as(f, v, textures);
 }
 
 // The pass over the planned targets, over cleared tables, at frame x. Only the contract speaks of the book.
@@ -82,8 +82,7 @@ fn sweep(
         }
         let row = sheet::target_at(s, base + t * sheet::TARGET_BYTES);
         let v = row_value(frames, values, slopes, x, row);
-        let r = read_as(family_of(row.code), v, textures);
-        put(marks, numbers, c as usize, r);
+        put(marks, numbers, c as usize, family_of(row.code), v, textures);
     }
 }
 

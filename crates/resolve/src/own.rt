@@ -27,7 +27,7 @@ ghost use Rattle.reading.specs.declared.Active.the-variants as active;
 ghost use Rattle.resolve.specs.Resolve.{orNumber, orShown, bookAlpha};
 ghost use Rattle.resolve.specs.Own.{bitOf, bookBit, ownBits, ownAlphas, ownChannel, paneIn, putIf};
 
-// From so many contents of a sheet on an index of the labels pays, by measurement. Few materials are searched for.
+// A sheet of so many contents has the labels indexed. Few materials are searched for.
 const MANY: usize = 32;
 
 // Shown is 1, hidden 0.

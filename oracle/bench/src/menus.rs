@@ -2,7 +2,7 @@
 
 use cases::calls::reference::bflan;
 use cases::format::book::Book;
-use cases::format::sheet::Sheet;
+use cases::format::sheet::{Sheet, Target};
 use cases::random::Random;
 use cases::readings::Case;
 use cases::readings::published_form as form;
@@ -59,17 +59,27 @@ pub const TYPICAL: (good::Size, books::Size) = (
 
 pub const FULL: (good::Size, books::Size) = (good::FULL, books::FULL);
 
+/// Each with its name and what [`Menu::new`] makes it of.
+pub const NAMED: [(&str, (good::Size, books::Size), Option<usize>); 3] = [
+    ("small", SMALL, Some(1)),
+    ("typical", TYPICAL, None),
+    ("full", FULL, Some(1)),
+];
+
 impl Menu {
-    /// A generated menu whose animation 0 plays and loops. `one` puts every
-    /// content into it, so that a reading takes all targets.
-    pub fn new((sheet, book): (good::Size, books::Size), one: bool) -> Self {
+    /// A generated menu whose animation 0 plays and loops. The contents are
+    /// divided among the first `parts` animations, as many to each; with one part
+    /// a reading takes all targets. `None` leaves them as they were generated.
+    pub fn new((sheet, book): (good::Size, books::Size), parts: Option<usize>) -> Self {
         let mut random = Random::new(1);
         let book = books::book(&mut random, book);
         let mut sheet = good::sheet(&mut random, sheet, &book);
         sheet.animations[0].frame_count = 60;
         sheet.animations[0].looping = 1;
-        if one {
-            sheet.contents.iter_mut().for_each(|c| c.animation = 0);
+        if let Some(parts) = parts {
+            let count = sheet.contents.len();
+            let contents = sheet.contents.iter_mut().enumerate();
+            contents.for_each(|(i, content)| content.animation = (i * parts / count) as u8);
         }
         Self::of(sheet, book)
     }
@@ -109,23 +119,29 @@ impl Menu {
         player
     }
 
+    /// The targets of animation 0 with their numbers.
+    pub fn targets(&self) -> impl Iterator<Item = (u16, &Target)> {
+        let sheet = &self.case.sheet;
+        (0..)
+            .zip(&sheet.targets)
+            .filter(|(_, target)| sheet.contents[usize::from(target.content)].animation == 0)
+    }
+
     /// A track of animation 0 that is its content's first and has a key, where
     /// the published form has it, and its last key, which no edit takes past
     /// another.
     pub fn edited_key(&self) -> (u16, TimelineTrack, u16) {
-        let sheet = &self.case.sheet;
         let mut before = None;
-        for (number, target) in sheet.targets.iter().enumerate() {
+        for (number, target) in self.targets() {
             let first = before.replace(target.content) != Some(target.content);
-            let own = sheet.contents[usize::from(target.content)].animation == 0;
-            if first && own && !target.keys().is_empty() {
+            if first && !target.keys().is_empty() {
                 let place = TimelineTrack {
                     label: String::new(),
                     content_idx: usize::from(target.content),
                     info_idx: 0,
                     target_idx: 0,
                 };
-                return (number as u16, place, target.keys().len() as u16 - 1);
+                return (number, place, target.keys().len() as u16 - 1);
             }
         }
         panic!("no track of animation 0 has keys")
@@ -146,4 +162,36 @@ fn without_listeners(nodes: &mut Vec<PaneNode>) {
     nodes
         .iter_mut()
         .for_each(|node| without_listeners(&mut node.children));
+}
+
+#[cfg(test)]
+mod tests {
+    use super::*;
+
+    /// How many contents each animation has.
+    fn contents(menu: &Menu) -> Vec<usize> {
+        let Sheet {
+            animations,
+            contents,
+            ..
+        } = &menu.case.sheet;
+        let of = |number: usize| {
+            contents
+                .iter()
+                .filter(move |c| c.animation as usize == number)
+        };
+        (0..animations.len())
+            .map(|number| of(number).count())
+            .collect()
+    }
+
+    #[test]
+    fn contents_are_divided_among_the_first_animations() {
+        let menu = |parts| Menu::new(FULL, Some(parts));
+        assert_eq!(contents(&menu(1)), [64, 0, 0, 0, 0, 0, 0, 0]);
+        assert_eq!(contents(&menu(4)), [16, 16, 16, 16, 0, 0, 0, 0]);
+        assert_eq!(contents(&menu(8)), [8; 8]);
+        assert_eq!(menu(1).targets().count(), 256);
+        assert!((16..64).contains(&menu(8).targets().count()));
+    }
 }

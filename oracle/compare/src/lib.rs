@@ -3,6 +3,7 @@
 pub mod alone;
 pub mod arguments;
 pub mod both;
+pub mod last_rows;
 pub mod lists;
 pub mod ours;
 pub mod probe;

@@ -20,6 +20,11 @@ impl Tally {
         }
     }
 
+    /// What was asked and both answers, where they first differed.
+    pub fn first(&self) -> Option<&str> {
+        self.first.as_deref()
+    }
+
     /// Prints one line, and the first difference if there is one. A run with a
     /// difference fails.
     pub fn report(&self, family: &str) {

@@ -2,6 +2,7 @@
 //! animation at a frame, both resolves, and the cascade.
 
 pub mod published_form;
+pub mod rows;
 pub mod some;
 pub mod whole;
 

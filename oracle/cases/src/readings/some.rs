@@ -21,6 +21,25 @@ pub fn case(random: &mut Random) -> Case {
     }
 }
 
+/// A full book, and a full sheet whose contents are all of the animation that is
+/// read: a reading searches for as many names as it can.
+pub fn crowded(random: &mut Random) -> Case {
+    let book = books::book(random, books::FULL);
+    let mut sheet = good::sheet(random, good::FULL, &book);
+    let animation = random.below(sheet.animations.len());
+    for content in &mut sheet.contents {
+        content.animation = animation as u8;
+    }
+    vary(random, &mut sheet);
+    vary_textures(random, &mut sheet);
+    let active = Some((animation, frame(random, &sheet)));
+    Case {
+        sheet,
+        book,
+        active,
+    }
+}
+
 /// Now and then nothing; else some animation, at a frame near some key.
 pub fn active(random: &mut Random, sheet: &Sheet) -> Option<(usize, f32)> {
     if random.once_in(32) {

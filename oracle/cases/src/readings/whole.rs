@@ -28,9 +28,14 @@ pub struct Cascade {
 }
 
 pub fn state(case: &Case) -> AnimationState {
-    let Some((number, frame)) = case.active else {
-        return AnimationState::default();
-    };
+    match case.active {
+        Some((number, frame)) => state_at(case, number, frame),
+        None => AnimationState::default(),
+    }
+}
+
+/// The state of another animation or at another frame.
+pub fn state_at(case: &Case, number: usize, frame: f32) -> AnimationState {
     let info = form::animation(&case.sheet, number);
     AnimationState::evaluate(&info, frame, &form::labels(&case.book))
 }

@@ -2,7 +2,9 @@
 //! give of an animation at a frame beside the proved readings, on COUNT random
 //! sheets, books and frames: every channel by itself where it is overridden and
 //! some where it isn't, all channels, every pane, layer and texture name, and
-//! the cascade.
+//! the cascade. For each sheet and book the last of some rows of a table of frames
+//! is compared too, and some must not be as the first; a COUNT below 1,000 may be
+//! too small for that.
 
 use cases::calls::held::Held;
 use cases::calls::{Call, NONE};
@@ -13,6 +15,7 @@ use cases::readings::whole::{MATERIAL_CHANNELS, PANE_CHANNELS};
 use cases::readings::{Case, some, whole};
 use cases::sheets::good::{MATERIAL_CODES, PANE_CODES};
 use compare::arguments::Arguments;
+use compare::last_rows::LastRows;
 use compare::ours::Ours;
 use compare::probe::readings::read_all;
 use compare::tally::Tally;
@@ -27,6 +30,7 @@ const OTHERS: usize = 4;
 #[derive(Default)]
 struct Tallies {
     without_player: Tally,
+    last_rows: LastRows,
     whole: Tally,
     single: Tally,
     panes: Tally,
@@ -54,6 +58,7 @@ fn main() {
     while tallies.whole.compared < count {
         let case = some::case(&mut random);
         tallies.met.add(&case);
+        tallies.last_rows.add(&mut random.beside(), &case);
         tallies.questions(&mut random, case);
     }
     tallies.report(seed);
@@ -113,6 +118,7 @@ impl Tallies {
         for (tally, what) in all {
             tally.report(&format!("{what}, seed {seed}"));
         }
+        self.last_rows.report(&format!("seed {seed}"));
     }
 }
 

@@ -1,24 +1,16 @@
--- `close_refusal` answers the first row of `closeTable` that does not hold.
-use Rattle.menu_checks.specs.Checks.{after-state}
-use Rattle.menu.specs.Rows.{closeTable}
-use borrow.Author.Needs.{needs}
+-- `close_refusal` answers the first row of `openRows` that does not hold, behind n.
+use Rattle.menu_checks.specs.Checks.{behind-laws}
 use Rattle.menu.proofs.dragging.close_refusal.Statement.{statement}
 use Rattle.menu.proofs.dragging.close_refusal.Tie as tie
 
-check-state-requires : tie.Need-check-state-requires
-check-state-requires c κs = search needs
-
 returns : tie.Need-returns
-unfolding closeTable
-returns c = search after-state
+returns c = search behind-laws
 
 returns-2 : tie.Need-returns-2
-unfolding closeTable
-returns-2 c = search after-state
+returns-2 c = search behind-laws
 
 returns-3 : tie.Need-returns-3
-unfolding closeTable
-returns-3 c = search after-state
+returns-3 c = search behind-laws
 
 pub close-refusal-spec : {M : Type 1} → statement M
-close-refusal-spec = tie.close (tie.spec check-state-requires returns returns-2 returns-3)
+close-refusal-spec = tie.close (tie.spec returns returns-2 returns-3)

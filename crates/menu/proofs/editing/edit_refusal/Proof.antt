@@ -1,48 +1,41 @@
--- `edit_refusal` answers the first row of `editTable` that does not hold.
+-- `edit_refusal` answers the first row of `editRows` that does not hold, behind n.
 use Rattle.edit.specs.Edit.{editRows}
-use Rattle.edit.specs.Put.{has-key, spot-inside}
-use Rattle.menu_checks.specs.Checks.{state-ready, after-state}
-use Rattle.menu.specs.Rows.{editTable}
-use Rattle.menu.proofs.Edits.{track-stops, track-goes, track-key, request-at}
-use borrow.Author.Needs.{needs}
+use Rattle.menu_checks.specs.Checks.{behind-laws}
+use Rattle.menu.proofs.Edits.{ready-key, placed-row, placed-inside, track-stops, track-goes, track-key, request-at}
 use Rattle.menu.proofs.editing.edit_refusal.Statement.{statement}
 use Rattle.menu.proofs.editing.edit_refusal.Tie as tie
 
-check-state-requires : tie.Need-check-state-requires
-check-state-requires c κs = search needs
-
 returns : tie.Need-returns
-unfolding editTable editRows
-returns c = search after-state
+returns c = search behind-laws
 
 track-refusal-requires : tie.Need-track-refusal-requires
-track-refusal-requires c κs = state-ready _ _ _ _ _ _ (c .before .check-state .ensures) (c .if1 .left) .sheet
+track-refusal-requires c κs = c .before .before .before .before .before .pre (c .if1 .left) .sheet
 
 returns-2 : tie.Need-returns-2
-unfolding editTable editRows
-returns-2 c = search (after-state, track-stops)
+unfolding editRows
+returns-2 c = search (behind-laws, track-stops)
 
 spot-of-requires : tie.Need-spot-of-requires
 spot-of-requires c κs =
-    let a = c .before .before in
-    (state-ready _ _ _ _ _ _ (a .before .check-state .ensures) (a .if1 .left) .sheet, has-key _ _ _ (track-key _ _ _ _ _ (c .before .track-refusal .ensures) (c .if2 .left)) .0)
+    let at-if1 = c .before .before in
+    let at-pre = at-if1 .before .before .before .before .before in
+    placed-row (ready-key (at-pre .pre (at-if1 .if1 .left)) _ _ (track-key _ _ _ _ _ (c .before .track-refusal .ensures) (c .if2 .left)))
 
 request-refusal-requires : tie.Need-request-refusal-requires
 request-refusal-requires c κs =
-    let a = c .before .before .before in
-    let w = state-ready _ _ _ _ _ _ (a .before .check-state .ensures) (a .if1 .left) in
-    let k = has-key _ _ _ (track-key _ _ _ _ _ (c .before .before .track-refusal .ensures) (c .before .if2 .left)) in
-    rw (c .spot-of .ensures) (spot-inside (w .sheet) _ (w .rules) _ _ (k .0) (k .1) .frames)
+    let at-if2 = c .before in
+    let at-if1 = at-if2 .before .before in
+    let at-pre = at-if1 .before .before .before .before .before in
+    placed-inside (ready-key (at-pre .pre (at-if1 .if1 .left)) _ _ (track-key _ _ _ _ _ (at-if2 .before .track-refusal .ensures) (at-if2 .if2 .left))) _ (c .spot-of .ensures) .frames
 
 returns-3 : tie.Need-returns-3
-unfolding editTable editRows
-returns-3 c = search (after-state, track-goes, request-at)
+unfolding editRows
+returns-3 c = search (behind-laws, track-goes, request-at)
 
 pub edit-refusal-spec : {M : Type 1} → statement M
 edit-refusal-spec =
     tie.close
     (tie.spec
-    check-state-requires
     returns
     track-refusal-requires
     returns-2

@@ -1,13 +1,20 @@
 -- `cascade` gives `cascadeOf`, its outputs included: each pane's visibility and alpha under its parents, and the influence that it hands its children.
+use mathlib.Core.List.{[]}
 use Rattle.menu_readings.specs.Rows.{cascadeTable}
-use Rattle.menu_checks.specs.Checks.{reading-ready}
-use Rattle.menu_readings.proofs.Answers.{cascade-refused, cascade-long, cascade-made}
+use Rattle.menu_checks.specs.Checks.{book-ready, reading-by, reading-ready}
+use Rattle.menu_readings.proofs.Answers.{cascade-table, cascade-refused, cascade-long, cascade-made}
 use borrow.Author.Needs.{needs}
 use Rattle.menu_readings.proofs.cascaded.cascade.Statement.{statement}
 use Rattle.menu_readings.proofs.cascaded.cascade.Tie as tie
 
+check-book-requires : tie.Need-check-book-requires
+check-book-requires c κs = search needs
+
+check-state-requires : tie.Need-check-state-requires
+check-state-requires c κs = book-ready _ _ _ _ _ (c .check-book .ensures)
+
 cascade-refusal-requires : tie.Need-cascade-refusal-requires
-cascade-refusal-requires c κs = search needs
+cascade-refusal-requires c κs = λ z. reading-ready _ _ _ _ _ _ [] (reading-by _ _ _ _ _ _ (c .before .before .before .before .check-book .ensures) (c .before .before .before .check-state .ensures)) z .ready .book
 
 same-length : tie.Need-same-length
 same-length c = search needs
@@ -19,7 +26,10 @@ same-length-3 : tie.Need-same-length-3
 same-length-3 c = search needs
 
 returns : tie.Need-returns
-returns c = cascade-refused _ _ _ _ _ _ _ _ _ _ (c .before .cascade-refusal .ensures) (c .if1 .taken)
+returns c =
+    let at-cascade-refusal = c .before in
+    let at-check-state = at-cascade-refusal .before .before .before .before in
+    cascade-refused _ _ _ _ _ _ _ _ _ _ (cascade-table _ _ _ _ _ _ _ _ _ (reading-by _ _ _ _ _ _ (at-check-state .before .check-book .ensures) (at-check-state .check-state .ensures)) (at-cascade-refusal .cascade-refusal .ensures)) (c .if1 .taken)
 
 active-in-requires : tie.Need-active-in-requires
 active-in-requires c κs = search needs
@@ -29,7 +39,9 @@ unfolding cascadeTable
 cascade-requires c κs =
     let at-if1 = c .before .before .before .before in
     let at-cascade-refusal = at-if1 .before in
-    (reading-ready _ _ _ _ _ _ _ (at-cascade-refusal .cascade-refusal .ensures) (at-if1 .if1 .left) .ready, cascade-long _ _ _ _ _ _ _ _ _ _ (at-cascade-refusal .cascade-refusal .ensures) (at-if1 .if1 .left))
+    let at-check-state = at-cascade-refusal .before .before .before .before in
+    let e = cascade-table _ _ _ _ _ _ _ _ _ (reading-by _ _ _ _ _ _ (at-check-state .before .check-book .ensures) (at-check-state .check-state .ensures)) (at-cascade-refusal .cascade-refusal .ensures) in
+    (reading-ready _ _ _ _ _ _ _ e (at-if1 .if1 .left) .ready, cascade-long _ _ _ _ _ _ _ _ _ _ e (at-if1 .if1 .left))
 
 same-length-4 : tie.Need-same-length-4
 same-length-4 c = search needs
@@ -46,12 +58,15 @@ returns-2 c =
     let at-active-in = at-cascade .before .before .before .before in
     let at-if1 = at-active-in .before in
     let at-cascade-refusal = at-if1 .before in
-    cascade-made _ _ _ _ _ _ _ _ _ _ (at-cascade-refusal .cascade-refusal .ensures) _ _ _ _ (at-if1 .if1 .left) (at-active-in .active-in .ensures) (at-cascade .cascade .ensures .0) (at-cascade .cascade .ensures .1 .0) (at-cascade .cascade .ensures .1 .1)
+    let at-check-state = at-cascade-refusal .before .before .before .before in
+    cascade-made _ _ _ _ _ _ _ _ _ _ (cascade-table _ _ _ _ _ _ _ _ _ (reading-by _ _ _ _ _ _ (at-check-state .before .check-book .ensures) (at-check-state .check-state .ensures)) (at-cascade-refusal .cascade-refusal .ensures)) _ _ _ _ (at-if1 .if1 .left) (at-active-in .active-in .ensures) (at-cascade .cascade .ensures .0) (at-cascade .cascade .ensures .1 .0) (at-cascade .cascade .ensures .1 .1)
 
 pub cascade-spec : {M : Type 1} → statement M
 cascade-spec =
     tie.close
     (tie.spec
+    check-book-requires
+    check-state-requires
     cascade-refusal-requires
     same-length
     same-length-2

@@ -2,15 +2,18 @@
 use native.Mathlib.Omega.{arith}
 use Rattle.laws.specs.Rows.{stops, goes, passes, fails, no-rows}
 use Rattle.menu_readings.specs.Rows.{textureNameTable, layerRows}
-use Rattle.menu_checks.specs.Checks.{name-refused, name-made, reading-ready}
+use Rattle.menu_checks.specs.Checks.{book-ready, reading-by, name-refused, name-made, reading-ready}
 use Rattle.menu_readings.specs.Readings.{textureNameOf}
 use Rattle.menu_readings.proofs.Answers.{in-no, in-yes, both-below, seven}
 use borrow.Author.Needs.{needs}
 use Rattle.menu_readings.proofs.resolved.texture_name.Statement.{statement}
 use Rattle.menu_readings.proofs.resolved.texture_name.Tie as tie
 
-check-reading-requires : tie.Need-check-reading-requires
-check-reading-requires c κs = search needs
+check-book-requires : tie.Need-check-book-requires
+check-book-requires c κs = search needs
+
+check-state-requires : tie.Need-check-state-requires
+check-state-requires c κs = book-ready _ _ _ _ _ (c .check-book .ensures)
 
 sub-result : tie.Need-sub-result
 sub-result c = search needs
@@ -23,10 +26,10 @@ part-result-end c = search needs
 
 returns : tie.Need-returns
 unfolding textureNameOf textureNameTable
-returns c = name-refused _ (stops _ _ (c .before .before .check-reading .ensures) (c .before .if1 .taken)) (c .before .if1 .taken)
+returns c = name-refused _ (stops _ _ (reading-by _ _ _ _ _ _ (c .before .before .before .check-book .ensures) (c .before .before .check-state .ensures)) (c .before .if1 .taken)) (c .before .if1 .taken)
 
 material-count-requires : tie.Need-material-count-requires
-material-count-requires c κs = (let w = reading-ready _ _ _ _ _ _ _ (c .before .check-reading .ensures) (c .if1 .left) .ready .book in omega arith)
+material-count-requires c κs = (let w = reading-ready _ _ _ _ _ _ _ (reading-by _ _ _ _ _ _ (c .before .before .check-book .ensures) (c .before .check-state .ensures)) (c .if1 .left) .ready .book in omega arith)
 
 sub-result-2 : tie.Need-sub-result-2
 sub-result-2 c = search needs
@@ -42,9 +45,9 @@ unfolding textureNameOf textureNameTable layerRows
 returns-2 c =
     let at-material-count = c .before .before in
     let at-if1 = at-material-count .before in
-    let at-check-reading = at-if1 .before in
-    let at-args = at-check-reading .before .before .before .before .before .before in
-    name-refused _ (goes _ _ tt (at-check-reading .check-reading .ensures) (at-if1 .if1 .left) (fails 7 _ (in-no (at-args .args .material) (at-args .args .slot) 3 (at-material-count .material-count .ensures) (c .before .if2 .taken)))) seven
+    let at-check-state = at-if1 .before in
+    let at-args = at-check-state .before .before .before .before .before .before .before in
+    name-refused _ (goes _ _ tt (reading-by _ _ _ _ _ _ (at-check-state .before .check-book .ensures) (at-check-state .check-state .ensures)) (at-if1 .if1 .left) (fails 7 _ (in-no (at-args .args .material) (at-args .args .slot) 3 (at-material-count .material-count .ensures) (c .before .if2 .taken)))) seven
 
 active-in-requires : tie.Need-active-in-requires
 active-in-requires c κs = search needs
@@ -53,9 +56,9 @@ texture-name-requires : tie.Need-texture-name-requires
 texture-name-requires c κs =
     let at-material-count = c .before .before in
     let at-if1 = at-material-count .before in
-    let at-check-reading = at-if1 .before in
-    let at-args = at-check-reading .before .before .before .before .before .before in
-    (reading-ready _ _ _ _ _ _ _ (at-check-reading .check-reading .ensures) (at-if1 .if1 .left) .ready, both-below (at-args .args .material) _ (at-args .args .slot) 3 (in-yes (at-args .args .material) (at-args .args .slot) 3 (at-material-count .material-count .ensures) (c .before .if2 .left)))
+    let at-check-state = at-if1 .before in
+    let at-args = at-check-state .before .before .before .before .before .before .before in
+    (reading-ready _ _ _ _ _ _ _ (reading-by _ _ _ _ _ _ (at-check-state .before .check-book .ensures) (at-check-state .check-state .ensures)) (at-if1 .if1 .left) .ready, both-below (at-args .args .material) _ (at-args .args .slot) 3 (in-yes (at-args .args .material) (at-args .args .slot) 3 (at-material-count .material-count .ensures) (c .before .if2 .left)))
 
 returns-3 : tie.Need-returns-3
 unfolding textureNameOf textureNameTable layerRows
@@ -63,15 +66,16 @@ returns-3 c =
     let at-if2 = c .before .before in
     let at-material-count = at-if2 .before in
     let at-if1 = at-material-count .before in
-    let at-check-reading = at-if1 .before in
-    let at-args = at-check-reading .before .before .before .before .before .before in
-    name-made (goes _ _ tt (at-check-reading .check-reading .ensures) (at-if1 .if1 .left) (passes 7 _ (in-yes (at-args .args .material) (at-args .args .slot) 3 (at-material-count .material-count .ensures) (at-if2 .if2 .left)) no-rows)) (rw (← c .before .active-in .ensures) (c .texture-name .ensures))
+    let at-check-state = at-if1 .before in
+    let at-args = at-check-state .before .before .before .before .before .before .before in
+    name-made (goes _ _ tt (reading-by _ _ _ _ _ _ (at-check-state .before .check-book .ensures) (at-check-state .check-state .ensures)) (at-if1 .if1 .left) (passes 7 _ (in-yes (at-args .args .material) (at-args .args .slot) 3 (at-material-count .material-count .ensures) (at-if2 .if2 .left)) no-rows)) (rw (← c .before .active-in .ensures) (c .texture-name .ensures))
 
 pub texture-name-spec : {M : Type 1} → statement M
 texture-name-spec =
     tie.close
     (tie.spec
-    check-reading-requires
+    check-book-requires
+    check-state-requires
     sub-result
     part-result-start
     part-result-end

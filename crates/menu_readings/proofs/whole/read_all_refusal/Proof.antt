@@ -1,36 +1,24 @@
--- `read_all_refusal` answers the first row of `readAllTable` that does not hold.
+-- `read_all_refusal` answers the first row of `tablesRows` that does not hold, behind n.
 use borrow.Author.Tests.{not-true, not-false}
-use Rattle.menu_readings.specs.Rows.{readAllTable, tablesRows}
 use Rattle.laws.specs.Rows.{passes, fails, no-rows}
-use Rattle.menu_checks.specs.Checks.{reading-ready, reading-goes, after-reading}
-use borrow.Author.Needs.{needs}
+use Rattle.menu_checks.specs.Checks.{behind-goes, behind-laws}
+use Rattle.menu_readings.specs.Rows.{tablesRows}
 use Rattle.menu_readings.proofs.whole.read_all_refusal.Statement.{statement}
 use Rattle.menu_readings.proofs.whole.read_all_refusal.Tie as tie
 
-check-reading-requires : tie.Need-check-reading-requires
-check-reading-requires c κs = search needs
-
 returns : tie.Need-returns
-unfolding readAllTable tablesRows
-returns c = search after-reading
+returns c = search behind-laws
 
 channel-count-requires : tie.Need-channel-count-requires
-channel-count-requires c κs = reading-ready _ _ _ _ _ _ _ (c .before .check-reading .ensures) (c .if1 .left) .ready .book
+channel-count-requires c κs = c .before .before .before .before .pre (c .if1 .left)
 
 returns-2 : tie.Need-returns-2
-unfolding readAllTable tablesRows
-returns-2 c =
-    let at-if1 = c .before .before in
-    let at-check-reading = at-if1 .before in
-    reading-goes _ _ _ _ _ _ _ (at-check-reading .check-reading .ensures) (at-if1 .if1 .left) (fails 13 _ (rw (← c .before .channel-count .ensures) (not-true _ (c .if2 .taken))))
+unfolding tablesRows
+returns-2 c = behind-goes (c .before .before .if1 .left) (fails 13 _ (rw (← c .before .channel-count .ensures) (not-true _ (c .if2 .taken))))
 
 returns-3 : tie.Need-returns-3
-unfolding readAllTable tablesRows
-returns-3 c =
-    let at-if1 = c .before .before in
-    let at-check-reading = at-if1 .before in
-    reading-goes _ _ _ _ _ _ _ (at-check-reading .check-reading .ensures) (at-if1 .if1 .left) (passes 13 _ (rw (← c .before .channel-count .ensures) (not-false _ (c .if2 .left))) no-rows)
+unfolding tablesRows
+returns-3 c = behind-goes (c .before .before .if1 .left) (passes 13 _ (rw (← c .before .channel-count .ensures) (not-false _ (c .if2 .left))) no-rows)
 
 pub read-all-refusal-spec : {M : Type 1} → statement M
-read-all-refusal-spec =
-    tie.close (tie.spec check-reading-requires returns channel-count-requires returns-2 returns-3)
+read-all-refusal-spec = tie.close (tie.spec returns channel-count-requires returns-2 returns-3)

@@ -1,16 +1,16 @@
--- Both tables get the reading at the channel, and nothing else changes.
+-- Both tables get the family's reading at the channel, and nothing else changes.
 use borrow.Author.Needs.{needs}
 use Rattle.reading.proofs.whole.put.Statement.{statement}
 use Rattle.reading.proofs.whole.put.Tie as tie
 
-mark-of-requires : tie.Need-mark-of-requires
-mark-of-requires c κs = search needs
+mark-as-requires : tie.Need-mark-as-requires
+mark-as-requires c κs = search needs
 
 slice-write-marks : tie.Need-slice-write-marks
 slice-write-marks c = search needs
 
-number-of-requires : tie.Need-number-of-requires
-number-of-requires c κs = search needs
+number-as-requires : tie.Need-number-as-requires
+number-as-requires c κs = search needs
 
 mul-numbers : tie.Need-mul-numbers
 mul-numbers c = search needs
@@ -31,9 +31,9 @@ pub put-spec : {M : Type 1} → statement M
 put-spec =
     tie.close
     (tie.spec
-    mark-of-requires
+    mark-as-requires
     slice-write-marks
-    number-of-requires
+    number-as-requires
     mul-numbers
     slice-write-numbers
     same-length

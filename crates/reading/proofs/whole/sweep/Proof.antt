@@ -55,24 +55,21 @@ row-value-requires c κs = let p = c .before .before .before .before .before .be
 family-of-requires : tie.Need-family-of-requires Inv-loop μ-loop
 family-of-requires c κs = search needs
 
-read-as-requires : tie.Need-read-as-requires Inv-loop μ-loop
-read-as-requires c κs = search needs
-
 cast-put : tie.Need-cast-put Inv-loop μ-loop
-cast-put c = let p = c .before .before .before .before .before .before .before .before .before .before .before .before .before .before .before .before .before .before .before .before .before .pre .0 in record { fits = omega (arith, pass-fits (p .1 .run) (c .before .before .before .before .before .before .before .before .before .before .loop .inv) (p .1 .held) (c .before .before .before .before .before .before .before .before .if1 .taken) refl (p .0 .book)) }
+cast-put c = let p = c .before .before .before .before .before .before .before .before .before .before .before .before .before .before .before .before .before .before .before .pre .0 in record { fits = omega (arith, pass-fits (p .1 .run) (c .before .before .before .before .before .before .before .before .loop .inv) (p .1 .held) (c .before .before .before .before .before .before .if1 .taken) refl (p .0 .book)) }
 
 put-requires : tie.Need-put-requires Inv-loop μ-loop
-put-requires c κs = let p = c .before .before .before .before .before .before .before .before .before .before .before .before .before .before .before .before .before .before .before .before .before .pre .0 in pass-room (p .1 .run) (c .before .before .before .before .before .before .before .before .before .before .loop .inv) (p .1 .held) (c .before .before .before .before .before .before .before .before .if1 .taken) refl (c .before .before .before .before .before .before .if2 .left)
+put-requires c κs = let p = c .before .before .before .before .before .before .before .before .before .before .before .before .before .before .before .before .before .before .before .before .pre .0 in pass-room (p .1 .run) (c .before .before .before .before .before .before .before .before .before .loop .inv) (p .1 .held) (c .before .before .before .before .before .before .before .if1 .taken) refl (c .before .before .before .before .before .if2 .left)
 
 loop-less-2 : tie.Need-loop-less-2 Inv-loop μ-loop
 loop-less-2 c = omega arith
 
 loop-again-2 : tie.Need-loop-again-2 Inv-loop μ-loop
 loop-again-2 c =
-    let p = c .before .before .before .before .before .before .before .before .before .before .before .before .before .before .before .before .before .before .before .before .before .before .before .before .before .before .pre .0 in
-    let t = c .before .before .before .before .before .before .before .before .before .before in
+    let p = c .before .before .before .before .before .before .before .before .before .before .before .before .before .before .before .before .before .before .before .before .before .before .before .before .before .pre .0 in
+    let t = c .before .before .before .before .before .before .before .before .before in
     pass-at (p .1 .run) (t .before .before .before .before .before .loop .inv) (p .1 .held) (t .before .before .before .if1 .taken) refl (t .before .if2 .left) (row-is _ _ (t .before .before .before .before .before .before .before .targets-at .ensures) (t .target-at .ensures)) (t .before .before .before .before .before .before .texture-count .ensures)
-    (read-is _ _ _ _ _ _ (c .before .before .before .before .before .before .before .before .before .row-value .ensures) (c .before .before .before .before .before .before .before .before .family-of .ensures) (c .before .before .before .before .before .before .before .read-as .ensures)) (c .before .before .before .before .put .ensures)
+    (read-is _ _ _ _ _ _ (c .before .before .before .before .before .before .before .before .row-value .ensures) (c .before .before .before .before .before .family-of .ensures) refl) (c .before .before .before .before .put .ensures)
 
 same-length : tie.Need-same-length Inv-loop μ-loop
 same-length c = omega (arith, cleared _ _ (c .before .before .before .before .before .before .before .before .before .before .before .before .before .pre .1 .0), c .before .before .loop .inv .marked .long)
@@ -101,9 +98,8 @@ sweep-spec =
     add-target-at
     target-at-requires
     row-value-requires
-    family-of-requires
-    read-as-requires
     cast-put
+    family-of-requires
     put-requires
     loop-less-2
     loop-again-2
