@@ -1,4 +1,4 @@
-// Loading, playing, editing, dragging and saving: each call looks at its rows of the table in their order, then makes its step. No function here asks anything of its
+// Loading, playing, editing, dragging and saving: each call looks at its rows of the table in their order, then makes its step. No call asks anything of its
 // caller.
 mod dragging;
 mod editing;

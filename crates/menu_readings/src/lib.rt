@@ -1,4 +1,4 @@
-// The readings of a player's menu: each looks at its rows of the table in their order, then reads. No function here asks anything of its caller.
+// The readings of a player's menu: each looks at its rows of the table in their order, then reads. No call asks anything of its caller.
 mod cascaded;
 mod resolved;
 mod single;
