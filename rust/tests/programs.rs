@@ -1,4 +1,6 @@
-//! The example programs, run on the example menu.
+//! The example programs, run on the example menu; `pictures` looks at what `filmstrip` draws, of the sample menu too.
+
+mod pictures;
 
 use std::path::{Path, PathBuf};
 use std::process::Command;
@@ -50,21 +52,42 @@ fn play() {
 }
 
 #[test]
-fn filmstrip() {
-    let folder = menu("filmstrip");
-    let files = [folder.join("small.sheet"), folder.join("small.book")];
-    run(program("filmstrip").args(&files).arg("0").arg(&folder));
-    let strip = fs::read_to_string(folder.join("small-0.svg")).unwrap();
-    assert_eq!(strip.matches(">frame ").count(), 8);
-    // "Logo" is hidden in the first four of the eight frames; "Root" is the stage.
-    assert_eq!(strip.matches("<polygon").count(), 4);
-    for track in 0..4 {
-        let picture =
-            fs::read_to_string(folder.join(format!("small-0-track-{track}.svg"))).unwrap();
-        // Each key has its diamond.
-        assert_eq!(
-            picture.matches("l6 -6l6 6l-6 6z").count(),
-            if track == 2 { 1 } else { 2 }
+fn filmstrip_failures() {
+    let folder = menu("failures");
+    let [sheet, book, none, broken] =
+        ["small.sheet", "small.book", "none", "broken"].map(|name| folder.join(name));
+    fs::write(&broken, "neither").unwrap();
+    let fails = |words: [&Path; 4], expected: String| {
+        let output = program("filmstrip").args(words).output().unwrap();
+        assert!(!output.status.success());
+        let text = String::from_utf8(output.stderr).unwrap();
+        assert!(
+            text.starts_with(&format!("filmstrip: {expected}")),
+            "{text}"
         );
+        assert_eq!(text.lines().count(), 1);
+    };
+    let shown = |path: &Path| path.display().to_string();
+    let missing = |path: &Path| format!("{}: No such file or directory\n", shown(path));
+    let zero = Path::new("0");
+    fails([&none, &book, zero, &folder], missing(&none));
+    fails([&sheet, &none, zero, &folder], missing(&none));
+    fails(
+        [&sheet, &book, zero, &none],
+        missing(&none.join("small-0.svg")),
+    );
+    fails(
+        [&broken, &book, zero, &folder],
+        shown(&broken) + ": refusal 1: ",
+    );
+    fails(
+        [&sheet, &broken, zero, &folder],
+        shown(&broken) + ": refusal 2: ",
+    );
+    for number in ["2", "65535"] {
+        let expected = format!("{}: animation {number}: refusal 6: ", shown(&sheet));
+        fails([&sheet, &book, Path::new(number), &folder], expected);
     }
+    let expected = "first is not the number of an animation\n".to_string();
+    fails([&sheet, &book, Path::new("first"), &folder], expected);
 }

@@ -1,4 +1,4 @@
-//! Which channel a track addresses, and what its keys' values are in the channel's unit.
+//! Which channel a track addresses.
 
 use dovebolt::{MaterialChannel, PaneChannel};
 
@@ -12,8 +12,6 @@ pub enum Place {
 
 pub struct Channel {
     pub place: Place,
-    /// A key's value times this is the reading.
-    pub unit: f32,
 }
 
 impl Channel {
@@ -38,16 +36,16 @@ fn listed(raw: u8, count: u16) -> u16 {
     }
 }
 
-fn pane_channel(t: &Track) -> Option<(PaneChannel, f32)> {
+fn pane_channel(t: &Track) -> Option<PaneChannel> {
     use PaneChannel::*;
     let after = |first: PaneChannel, n: u16| PaneChannel::from_number(first.number() + n);
     match &t.code {
-        b"FLPA" => Some((after(TranslateX, listed(t.raw, 10))?, 1.0)),
-        b"FLVI" => Some((Visible, 1.0)),
-        b"FLVC" => Some(match listed(t.raw, 17) {
-            16 => (Alpha, 1.0 / 255.0),
-            n => (after(LeftTopRed, n)?, 1.0 / 255.0),
-        }),
+        b"FLPA" => after(TranslateX, listed(t.raw, 10)),
+        b"FLVI" => Some(Visible),
+        b"FLVC" => match listed(t.raw, 17) {
+            16 => Some(Alpha),
+            n => after(LeftTopRed, n),
+        },
         _ => None,
     }
 }
@@ -74,14 +72,13 @@ pub fn of(t: &Track, menu: &Menu) -> Option<Channel> {
     match t.kind {
         0 | 3 => {
             let row = menu.panes.iter().position(|p| p.label == t.name)?;
-            let (channel, unit) = pane_channel(t)?;
-            let place = Place::Pane(row as u16, channel);
-            Some(Channel { place, unit })
+            let place = Place::Pane(row as u16, pane_channel(t)?);
+            Some(Channel { place })
         }
         1 => {
             let row = menu.materials.iter().position(|m| *m == t.name)?;
             let place = Place::Material(row as u16, material_channel(t)?);
-            Some(Channel { place, unit: 1.0 })
+            Some(Channel { place })
         }
         _ => None,
     }

@@ -12,6 +12,8 @@ pub struct Menu {
     pub animation: Animation,
     pub panes: Vec<Pane>,
     pub materials: Vec<String>,
+    /// The sheet's texture names, row by row.
+    pub textures: Vec<String>,
 }
 
 impl Menu {
@@ -25,6 +27,7 @@ impl Menu {
     ) -> Menu {
         let animation = animation(&sheet, number);
         let (panes, materials) = (panes(&book), material_names(&book));
+        let textures = texture_names(&sheet);
         Menu {
             name,
             sheet,
@@ -34,6 +37,7 @@ impl Menu {
             animation,
             panes,
             materials,
+            textures,
         }
     }
 
@@ -73,6 +77,7 @@ pub struct Pane {
 const ANIMATION: usize = 28;
 const CONTENT: usize = 28;
 const TARGET: usize = 14;
+const TEXTURE: usize = 24;
 const PANE: usize = 72;
 const MATERIAL: usize = 156;
 
@@ -138,5 +143,13 @@ fn material_names(book: &[u8]) -> Vec<String> {
     let first = 4 + usize::from(u16_at(book, 0)) * PANE;
     (0..usize::from(u16_at(book, 2)))
         .map(|row| name_at(book, first + row * MATERIAL))
+        .collect()
+}
+
+fn texture_names(sheet: &[u8]) -> Vec<String> {
+    let rows = |at| usize::from(u16_at(sheet, at));
+    let first = 12 + rows(0) * ANIMATION + rows(2) * CONTENT + rows(4) * TARGET;
+    (0..rows(8))
+        .map(|row| name_at(sheet, first + row * TEXTURE))
         .collect()
 }

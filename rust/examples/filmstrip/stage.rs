@@ -1,8 +1,8 @@
 //! Where each pane is while the player shows a frame.
 
-use dovebolt::{Corners, Player, Refusal, Vector2f, Vector3f, corners, rotate_point};
+use dovebolt::{Corners, Player, Refusal, Transform, Vector2f, Vector3f, corners, rotate_point};
 
-use crate::rows::Menu;
+use crate::rows::{Menu, Pane};
 
 /// A pane that is shown: its row, its corners on a stage whose y goes down, and its alpha under its parents.
 pub struct Shown {
@@ -12,7 +12,6 @@ pub struct Shown {
 }
 
 /// What a pane hands its children.
-#[derive(Clone, Copy)]
 struct Placed {
     center: Vector2f,
     scale: Vector2f,
@@ -29,52 +28,61 @@ const ROOT: Placed = Placed {
     },
 };
 
-/// The panes that are shown, parents first. A layout's y goes up, so translations are taken downwards.
-pub fn shown(player: &Player, menu: &Menu) -> Result<Vec<Shown>, Refusal> {
+/// Where a pane is under its parent. A layout's y goes up, so translations are taken downwards.
+fn placed(own: &Transform, parent: &Placed) -> Result<Placed, Refusal> {
+    let offset = Vector2f {
+        x: own.translation.x * parent.scale.x,
+        y: -own.translation.y * parent.scale.y,
+    };
+    Ok(Placed {
+        center: rotate_point(offset, parent.center, parent.rotation)?,
+        scale: Vector2f {
+            x: own.scale.x * parent.scale.x,
+            y: own.scale.y * parent.scale.y,
+        },
+        rotation: Vector3f {
+            x: own.rotation.x + parent.rotation.x,
+            y: own.rotation.y + parent.rotation.y,
+            z: own.rotation.z + parent.rotation.z,
+        },
+    })
+}
+
+fn corners_of(pane: &Pane, own: &Transform, here: &Placed) -> Result<Corners, Refusal> {
+    let size = Vector2f {
+        x: own.size.x * here.scale.x,
+        y: own.size.y * here.scale.y,
+    };
+    corners(
+        here.center,
+        size,
+        pane.horizontal,
+        pane.vertical,
+        here.rotation,
+    )
+}
+
+/// The panes that are shown, parents first. A failure names its pane: numbers and angles can be too large to be placed.
+pub fn shown(player: &Player, menu: &Menu) -> Result<Vec<Shown>, String> {
     let (sheet, book, keys) = (&menu.sheet, &menu.book, &menu.keys);
-    let cascade = player.cascade(sheet, book, keys)?;
-    let mut placed: Vec<Placed> = vec![];
+    let cascade = player
+        .cascade(sheet, book, keys)
+        .map_err(|refusal| refusal.to_string())?;
+    let mut all: Vec<Placed> = vec![];
     let mut shown = vec![];
     for (row, pane) in menu.panes.iter().enumerate() {
-        let parent = pane.parent.map_or(ROOT, |p| placed[p]);
-        let own = player
-            .resolve_pane(sheet, book, keys, row as u16)?
-            .transform;
-        let offset = Vector2f {
-            x: own.translation.x * parent.scale.x,
-            y: -own.translation.y * parent.scale.y,
-        };
-        let here = Placed {
-            center: rotate_point(offset, parent.center, parent.rotation)?,
-            scale: Vector2f {
-                x: own.scale.x * parent.scale.x,
-                y: own.scale.y * parent.scale.y,
-            },
-            rotation: Vector3f {
-                x: own.rotation.x + parent.rotation.x,
-                y: own.rotation.y + parent.rotation.y,
-                z: own.rotation.z + parent.rotation.z,
-            },
-        };
-        placed.push(here);
+        let at = |refusal: Refusal| format!("pane {row}: {refusal}");
+        let resolved = player.resolve_pane(sheet, book, keys, row as u16);
+        let own = resolved.map_err(at)?.transform;
+        let here = placed(&own, pane.parent.map_or(&ROOT, |p| &all[p])).map_err(at)?;
         if cascade[row].visible {
-            let size = Vector2f {
-                x: own.size.x * here.scale.x,
-                y: own.size.y * here.scale.y,
-            };
-            let corners = corners(
-                here.center,
-                size,
-                pane.horizontal,
-                pane.vertical,
-                here.rotation,
-            )?;
             shown.push(Shown {
                 row,
-                corners,
+                corners: corners_of(pane, &own, &here).map_err(at)?,
                 alpha: cascade[row].alpha,
             });
         }
+        all.push(here);
     }
     Ok(shown)
 }

@@ -1,258 +1,183 @@
-//! The filmstrip: one cell a frame.
+//! The filmstrip: a cell for each frame in which something changes, in rows.
 
 use std::fmt::Write;
 
-use dovebolt::{Player, Refusal, Vector2f};
+use dovebolt::Player;
 
+use crate::cell::{View, drawing};
+use crate::moments::{Drawn, Part, parts};
 use crate::rows::{Animation, Menu, Pane};
-use crate::stage::{Shown, shown};
-use crate::svg;
+use crate::svg::{self, About, MARGIN, WIDTH};
+use crate::{changes, words};
 
-const MARGIN: f32 = 36.0;
-const GAP: f32 = 20.0;
-const HEAD: f32 = 92.0;
-const CAPTION: f32 = 20.0;
-const CELL_WIDTH: f32 = 300.0;
-const LEGEND_ROW: f32 = 22.0;
-const LEGEND_COLUMN: f32 = 180.0;
-const MOST_COLUMNS: usize = 8;
+const GAP: f64 = 14.0;
+/// From a line of text to the next below a cell.
+const STEP: f64 = 15.0;
+const CAPTION: f64 = 12.5;
+/// A cell that stands for frames that are left out.
+const NARROW: f64 = 84.0;
+const FEWEST_COLUMNS: usize = 2;
+const MOST_COLUMNS: usize = 4;
+const LEGEND_ROW: f64 = 21.0;
+const LEGEND_COLUMNS: usize = 4;
 
-/// A label's letters, and how wide one is at most.
-const LABEL: f32 = 7.0;
-const LETTER: f32 = LABEL * 0.68;
+const ABOUT_CELLS: &str = "A pane fades by its alpha under its parents; hidden panes are left out. \
+    Below a cell: changes since the cell before that can't be drawn; below the first, such overrides.";
 
-/// A pane that others lie on, or that covers most of the stage, is filled faintly.
-const FAINT: f32 = 0.22;
-const PLAIN: f32 = 0.7;
-const MOST_OF_THE_STAGE: f32 = 0.5;
-
-/// The part of the layout that a cell shows, as large as the first pane, and its scale in the cell.
-struct View {
-    size: Vector2f,
-    scale: f32,
+/// A part with its place in the rows.
+struct Placed<'a> {
+    part: &'a Part,
+    x: f64,
+    lines: Vec<String>,
 }
 
-/// A pane's outline in a cell.
-struct Outline {
-    corners: [(f32, f32); 4],
-    row: usize,
-    alpha: f32,
+/// As few columns as make a square, so that few cells are large.
+fn cell_width(cells: usize) -> f64 {
+    let columns = (FEWEST_COLUMNS..MOST_COLUMNS)
+        .find(|n| n * n >= cells)
+        .unwrap_or(MOST_COLUMNS) as f64;
+    ((WIDTH - MARGIN * 2.0 + GAP) / columns - GAP).floor()
 }
 
-/// Left, top, right and bottom.
-type Rect = (f32, f32, f32, f32);
-
-impl View {
-    fn height(&self) -> f32 {
-        self.size.y * self.scale
-    }
-
-    fn point(&self, p: Vector2f) -> (f32, f32) {
-        (
-            (p.x + self.size.x * 0.5) * self.scale,
-            (p.y + self.size.y * 0.5) * self.scale,
-        )
-    }
-
-    fn outline(&self, s: &Shown) -> Outline {
-        let c = s.corners;
-        Outline {
-            corners: [c.top_left, c.top_right, c.bottom_right, c.bottom_left]
-                .map(|p| self.point(p)),
-            row: s.row,
-            alpha: s.alpha,
+/// The parts from left to right, in rows.
+fn rows(parts: &[Part], width: f64) -> Vec<Vec<Placed<'_>>> {
+    let mut rows = vec![vec![]];
+    let mut x = MARGIN;
+    for part in parts {
+        let (wide, lines) = match part {
+            Part::Drawn(d) => (width, changes::lines(&d.changes, svg::SMALL, width)),
+            Part::Still { .. } => (NARROW, vec![]),
+        };
+        if x + wide > WIDTH - MARGIN {
+            rows.push(vec![]);
+            x = MARGIN;
         }
+        let row = rows.len() - 1;
+        rows[row].push(Placed { part, x, lines });
+        x += wide + GAP;
     }
+    rows
 }
 
-impl Outline {
-    fn rect(&self) -> Rect {
-        let ((left, top), (right, bottom)) = (self.corners[0], self.corners[2]);
-        (left, top, right, bottom)
-    }
-
-    fn draw(&self, fill: f32) -> String {
-        let points: Vec<String> = self
-            .corners
-            .iter()
-            .map(|(x, y)| format!("{x:.1},{y:.1}"))
-            .collect();
-        format!(
-            "<polygon points=\"{}\" fill=\"{}\" fill-opacity=\"{fill}\" stroke=\"{}\" stroke-width=\"0.9\" opacity=\"{:.2}\"/>\n",
-            points.join(" "),
-            svg::fill(self.row),
-            svg::stroke(self.row),
-            self.alpha
-        )
-    }
-
-    /// Where the label may go: inside the pane at its top left, or outside it, above or below.
-    fn label_places(&self, label: &str) -> Vec<Rect> {
-        let (left, top, right, bottom) = self.rect();
-        let (wide, high) = (label.len() as f32 * LETTER, LABEL + 1.0);
-        let at = |x: f32, y: f32| (x, y, x + wide, y + high);
-        let fits = wide + 4.0 <= right - left && high + 2.0 <= bottom - top;
-        let inside = fits.then(|| at(left + 4.0, top + 2.0));
-        inside
-            .into_iter()
-            .chain([at(left, top - high - 2.0), at(left, bottom + 1.0)])
-            .collect()
-    }
-}
-
-fn apart(a: &Rect, b: &Rect) -> bool {
-    a.0 > b.2 || b.0 > a.2 || a.1 > b.3 || b.1 > a.3
-}
-
-fn within(a: &Rect, b: &Rect) -> bool {
-    b.0 <= a.0 && a.2 <= b.2 && b.1 <= a.1 && a.3 <= b.3
-}
-
-/// The first place of a label that is on the stage, crosses no outline and lies on no pane above its own.
-fn free_place(
-    stage: &Rect,
-    outlines: &[Outline],
-    n: usize,
-    label: &str,
-    taken: &[Rect],
-) -> Option<Rect> {
-    let clear = |place: &Rect| {
-        let under = outlines[..=n]
-            .iter()
-            .all(|o| apart(place, &o.rect()) || within(place, &o.rect()));
-        let over = outlines[n + 1..]
-            .iter()
-            .all(|o| apart(place, &o.rect()) || o.rect() == outlines[n].rect());
-        within(place, stage) && under && over && taken.iter().all(|t| apart(place, t))
-    };
-    outlines[n].label_places(label).into_iter().find(clear)
-}
-
-/// How strongly a pane is filled.
-fn fill_of(panes: &[Pane], view: &View, outline: &Outline) -> f32 {
-    let (left, top, right, bottom) = outline.rect();
-    let wide = (right - left) * (bottom - top) > CELL_WIDTH * view.height() * MOST_OF_THE_STAGE;
-    let holds = panes.iter().any(|p| p.parent == Some(outline.row));
-    if wide || holds { FAINT } else { PLAIN }
-}
-
-/// The panes of a frame, then their labels. The root is the stage itself.
-fn stage(view: &View, panes: &[Pane], shown: &[Shown]) -> String {
-    let drawn = shown.iter().filter(|s| panes[s.row].parent.is_some());
-    let outlines: Vec<Outline> = drawn.map(|s| view.outline(s)).collect();
-    let mut out: String = outlines
-        .iter()
-        .map(|o| o.draw(fill_of(panes, view, o)))
-        .collect();
-    let mut taken = vec![];
-    for (n, o) in outlines.iter().enumerate() {
-        let label = &panes[o.row].label;
-        if let Some(place) = free_place(
-            &(0.0, 0.0, CELL_WIDTH, view.height()),
-            &outlines,
-            n,
-            label,
-            &taken,
-        ) {
-            let faded = format!(" opacity=\"{:.2}\"", o.alpha);
-            out += &svg::text(
-                place.0,
-                place.3 - 1.0,
-                LABEL,
-                &svg::stroke(o.row),
-                &faded,
-                label,
-            );
-            taken.push(place);
-        }
-    }
-    out
-}
-
-/// A frame's cell at (x, y). What lies outside the stage is cut off.
-fn cell(view: &View, panes: &[Pane], shown: &[Shown], x: f32, y: f32, frame: usize) -> String {
-    let (width, height) = (CELL_WIDTH, view.height());
-    let mut out = format!(
-        "<svg x=\"{x:.1}\" y=\"{y:.1}\" width=\"{width:.1}\" height=\"{height:.1}\">\
-         <rect width=\"100%\" height=\"100%\" fill=\"{}\"/>\n{}</svg>\n",
-        svg::CELL,
-        stage(view, panes, shown)
-    );
-    let _ = writeln!(
-        out,
-        "<rect x=\"{x:.1}\" y=\"{y:.1}\" width=\"{width:.1}\" height=\"{height:.1}\" fill=\"none\" stroke=\"{}\"/>",
+fn frame(x: f64, y: f64, width: f64, height: f64, more: &str) -> String {
+    format!(
+        "<rect x=\"{x:.1}\" y=\"{y:.1}\" width=\"{width:.1}\" height=\"{height:.1}\" fill=\"none\" stroke=\"{}\"{more}/>\n",
         svg::LINE
-    );
-    out + &svg::text(
-        x,
-        y + height + CAPTION - 5.0,
-        12.0,
-        svg::QUIET,
-        "",
-        &format!("frame {frame}"),
     )
 }
 
-fn legend(panes: &[Pane], y: f32, across: usize) -> String {
-    let drawn = (0..panes.len()).filter(|row| panes[*row].parent.is_some());
+/// A frame's cell at (x, y), its number and its changes. What lies outside the stage is cut off.
+fn cell(view: &View, panes: &[Pane], drawn: &Drawn, placed: &Placed, y: f64) -> String {
+    let (x, width, height) = (placed.x, view.width, view.height);
+    let mut out = format!(
+        "<svg x=\"{x:.1}\" y=\"{y:.1}\" width=\"{width:.1}\" height=\"{height:.1}\">\
+         <rect width=\"100%\" height=\"100%\" fill=\"{}\"/>\n{}</svg>\n{}",
+        svg::CELL,
+        drawing(view, panes, &drawn.shown),
+        frame(x, y, width, height, "")
+    );
+    let caption = format!("frame {}", drawn.frame);
+    let mut below = y + height + STEP;
+    out += &svg::text(x, below, CAPTION, svg::INK, "", &caption);
+    if placed.lines.is_empty() {
+        return out;
+    }
+    let all: Vec<&str> = drawn.changes.iter().map(|c| c.exact.as_str()).collect();
+    out += &format!("<g>{}\n", svg::title(&all.join(", ")));
+    for line in &placed.lines {
+        below += STEP;
+        out += &svg::text(x, below, svg::SMALL, svg::QUIET, "", line);
+    }
+    out + "</g>\n"
+}
+
+/// A narrow cell for frames that are as the one before them.
+fn still(view: &View, first: usize, last: usize, x: f64, y: f64) -> String {
+    let like = first - 1;
+    let words = if first == last {
+        format!("frame {first}: as frame {like}")
+    } else {
+        format!("frames {first} to {last}: as frame {like}")
+    };
+    let lines = words::wrapped(&words, svg::SMALL, NARROW - 8.0);
+    let mut out = format!("<g>{}\n", svg::title(&words));
+    out += &frame(x, y, NARROW, view.height, " stroke-dasharray=\"4 3\"");
+    let top = y + view.height * 0.5 - STEP * lines.len() as f64 * 0.5;
+    for (n, line) in lines.iter().enumerate() {
+        let base = top + STEP * (n as f64 + 0.75);
+        let middle = " text-anchor=\"middle\"";
+        out += &svg::text(x + NARROW * 0.5, base, svg::SMALL, svg::QUIET, middle, line);
+    }
+    out + "</g>\n"
+}
+
+fn legend(panes: &[Pane], y: f64) -> (String, f64) {
+    let column = (WIDTH - MARGIN * 2.0) / LEGEND_COLUMNS as f64;
     let mut out = String::new();
-    for (n, row) in drawn.enumerate() {
-        let x = MARGIN + (n % across) as f32 * LEGEND_COLUMN;
-        let y = y + (n / across) as f32 * LEGEND_ROW;
+    for (n, (row, pane)) in panes.iter().enumerate().skip(1).enumerate() {
+        let x = MARGIN + (n % LEGEND_COLUMNS) as f64 * column;
+        let y = y + (n / LEGEND_COLUMNS) as f64 * LEGEND_ROW;
         let _ = writeln!(
             out,
             "<rect x=\"{x:.1}\" y=\"{y:.1}\" width=\"12\" height=\"12\" rx=\"2\" fill=\"{}\" stroke=\"{}\"/>",
             svg::fill(row),
             svg::stroke(row)
         );
-        out += &svg::text(x + 19.0, y + 10.5, 12.0, svg::INK, "", &panes[row].label);
+        let label = words::cut(&pane.label, svg::MIDDLE, column - 24.0);
+        out += &svg::text(x + 18.0, y + 10.5, svg::MIDDLE, svg::INK, "", &label);
     }
-    out
+    let rows = (panes.len() - 1).div_ceil(LEGEND_COLUMNS);
+    (out, y + rows as f64 * LEGEND_ROW)
 }
 
-fn heading(title: &str, animation: &Animation) -> String {
+/// How long the animation is, what comes after it, and which frames are left out.
+fn summary(animation: &Animation, drawn: usize) -> String {
+    let count = usize::from(animation.frames.max(1));
     let end = match (animation.looping, animation.next.as_str()) {
         (true, _) => "loops".to_string(),
         (false, "") => "plays once".to_string(),
         (false, next) => format!("plays once, then {next}"),
     };
-    let line = format!(
-        "{} frames, {end}. A pane fades by its alpha under its parents; hidden panes are left out.",
-        animation.frames
-    );
-    svg::text(MARGIN, 46.0, 22.0, svg::INK, " font-weight=\"bold\"", title)
-        + &svg::text(MARGIN, 68.0, 13.0, svg::QUIET, "", &line)
+    let left_out = match count - drawn {
+        0 => String::new(),
+        1 => " 1 frame in which nothing changes is left out.".to_string(),
+        n => format!(" {n} frames in which nothing changes are left out."),
+    };
+    let plural = if animation.frames == 1 { "" } else { "s" };
+    format!("{} frame{plural}, {end}.{left_out}", animation.frames)
 }
 
-/// The strip of one animation.
-pub fn filmstrip(player: &mut Player, menu: &Menu) -> Result<String, Refusal> {
+/// The strip of one animation. A failure names its frame.
+pub fn filmstrip(player: &mut Player, menu: &Menu) -> Result<String, String> {
+    let parts = parts(player, menu)?;
+    let cells = parts.iter().filter(|p| matches!(p, Part::Drawn(_))).count();
     let size = player
-        .resolve_pane(&menu.sheet, &menu.book, &menu.keys, 0)?
+        .pose(&menu.sheet, Some(menu.number), 0.0)
+        .and_then(|()| player.resolve_pane(&menu.sheet, &menu.book, &menu.keys, 0))
+        .map_err(|refusal| refusal.to_string())?
         .transform
         .size;
-    let view = View {
-        size,
-        scale: CELL_WIDTH / size.x,
-    };
-    let count = usize::from(menu.animation.frames.max(1));
-    let columns = (1..MOST_COLUMNS)
-        .find(|n| n * n >= count)
-        .unwrap_or(MOST_COLUMNS);
-    let (step_x, step_y) = (CELL_WIDTH + GAP, view.height() + CAPTION + GAP);
+    let view = View::new(size, cell_width(parts.len()));
+    let summary = summary(&menu.animation, cells);
 
-    let mut body = heading(&menu.title(), &menu.animation);
-    for n in 0..count {
-        player.pose(&menu.sheet, Some(menu.number), n as f32)?;
-        let (x, y) = (
-            MARGIN + (n % columns) as f32 * step_x,
-            HEAD + (n / columns) as f32 * step_y,
-        );
-        body += &cell(&view, &menu.panes, &shown(player, menu)?, x, y, n);
+    let (mut body, below) = svg::heading(&menu.title(), &format!("{summary} {ABOUT_CELLS}"));
+    let mut y = below + GAP + 4.0;
+    for row in rows(&parts, view.width) {
+        for placed in &row {
+            body += &match placed.part {
+                Part::Drawn(drawn) => cell(&view, &menu.panes, drawn, placed, y),
+                Part::Still { first, last } => still(&view, *first, *last, placed.x, y),
+            };
+        }
+        let lines = row.iter().map(|p| p.lines.len()).max().unwrap_or(0);
+        y += view.height + STEP * (lines + 1) as f64 + GAP;
     }
-    let width = MARGIN * 2.0 + columns as f32 * step_x - GAP;
-    let below = HEAD + count.div_ceil(columns) as f32 * step_y;
-    let across = ((width - MARGIN * 2.0) / LEGEND_COLUMN).max(1.0) as usize;
-    body += &legend(&menu.panes, below, across);
-    let height = below + menu.panes.len().div_ceil(across) as f32 * LEGEND_ROW + MARGIN - 8.0;
-    Ok(svg::picture(width, height, &body))
+    let (legend, below) = legend(&menu.panes, y + 4.0);
+    let about = About {
+        title: format!("{}: the frames as a strip", menu.title()),
+        description: format!(
+            "{summary} A cell a frame, {cells} in all, each with the outlines of its panes."
+        ),
+    };
+    Ok(svg::picture(below + GAP, &about, &(body + &legend)))
 }
