@@ -21,21 +21,19 @@ extern "C" {
 /* ---- refusals */
 enum menu_refusal {
     MENU_OK = 0,
-    MENU_SHEET = 1,              /* the sheet breaks its layout (key rules apart) */
+    MENU_SHEET = 1,              /* the sheet breaks its layout */
     MENU_BOOK = 2,               /* the book breaks its layout */
     MENU_KEY_LENGTHS = 3,        /* a key array is not as long as the sheet has keys */
-    MENU_KEY_RULES = 4,          /* the keys (at loading the sheet's, later the lent ones) break the key rules */
-    MENU_STATE = 5,              /* the player's state is broken; an open drag's row is out of range, or its starting
-                                  * key, put back, would break the key rules; an undo's or redo's key is not as its
-                                  * entry says */
-    MENU_ANIMATION = 6,          /* no such animation to play or to follow; edit or opening of a drag, nothing active */
-    MENU_NO_SUCH = 7,            /* track not in the active animation, or no such key, channel, pane, material or origin */
-    MENU_NOT_FINITE = 8,         /* an argument or a tick's frame not finite; UV layers or SRTs not of whole entries */
-    MENU_OVERTAKES = 9,          /* clamped frame above the next key's */
-    MENU_NOT_HERMITE = 10,       /* slope edit, curve not Hermite */
+    MENU_KEY_RULES = 4,          /* the keys break the key rules */
+    MENU_STATE = 5,              /* the player's state is broken, or an undo's or redo's key is not as its entry says */
+    MENU_ANIMATION = 6,          /* no such animation, or nothing is active */
+    MENU_NO_SUCH = 7,            /* no such track in the active animation, key, channel, pane, material, layer or origin */
+    MENU_NOT_FINITE = 8,         /* a number is not finite, or UV layers or SRTs are not whole entries */
+    MENU_OVERTAKES = 9,          /* the clamped frame is above the next key's */
+    MENU_NOT_HERMITE = 10,       /* the curve is not Hermite */
     MENU_NOTHING_TO_RETURN = 11, /* nothing to undo, or to redo */
-    MENU_ANGLE = 12,             /* an angle above 3,600 degrees in size */
-    MENU_OUTPUT_LENGTH = 13,     /* outputs not exactly as long */
+    MENU_ANGLE = 12,             /* an angle above 3,600 degrees */
+    MENU_OUTPUT_LENGTH = 13,     /* an output is not exactly as long as it must be */
     MENU_SAVE_LENGTH = 14,       /* the buffer is not as long as the sheet */
     MENU_DRAG = 15               /* a drag is open, or none is */
 };
@@ -123,6 +121,24 @@ enum menu_tick_answer { MENU_IDLE = 0, MENU_RUNNING = 1, MENU_ENDED = 2, MENU_NE
 enum menu_reading_kind { MENU_NOTHING = 0, MENU_NUMBER = 1, MENU_SHOWN = 2, MENU_ROW = 3, MENU_LEVEL = 4 };
 
 /* ---- structs */
+
+/* What a sheet holds. The key arrays are `keys` long. */
+typedef struct {
+    uint8_t refusal;
+    uint16_t animations;
+    uint16_t contents;
+    uint16_t tracks;
+    uint16_t keys;
+    uint16_t textures;
+} menu_counted_sheet;
+
+/* What a book holds. A whole reading is `channels` long: MENU_PANE_CHANNELS a pane, MENU_MATERIAL_CHANNELS a material. */
+typedef struct {
+    uint8_t refusal;
+    uint16_t panes;
+    uint16_t materials;
+    uint16_t channels;
+} menu_counted_book;
 
 /* The edits that can be undone or redone. Row n % 128 belongs to standing edit number n. */
 typedef struct {
@@ -232,10 +248,18 @@ typedef struct {
     menu_vector2 point;
 } menu_turned;
 
+/* ---- counts: how long the arrays must be that later calls take */
+
+/* Refusal 1. */
+menu_counted_sheet menu_sheet_counts(const uint8_t *sheet, size_t sheet_len);
+
+/* Refusal 2. */
+menu_counted_book menu_book_counts(const uint8_t *book, size_t book_len);
+
 /* ---- loading and playing */
 
-/* The sheet's keys into three arrays, each as long as the sheet has keys (its u16 at byte 6), with a fresh player.
- * Refusals 1, 3, 4. */
+/* The sheet's keys into three arrays, each as long as menu_sheet_counts says, with a fresh player. Refusals 1, 3, 4, the
+ * last where the sheet's own keys break the key rules. */
 menu_played menu_load(const uint8_t *sheet, size_t sheet_len, float *frames, size_t frames_len, float *values,
                       size_t values_len, float *slopes, size_t slopes_len);
 
@@ -250,7 +274,7 @@ menu_played menu_play(menu_player player, const uint8_t *sheet, size_t sheet_len
 menu_played menu_pose(menu_player player, const uint8_t *sheet, size_t sheet_len, uint16_t animation, float frame);
 
 /* Lets dt seconds pass at fps frames a second. After MENU_NEXT, menu_next_name of the player's selection has the name.
- * Refusals 1, 5, 8. */
+ * Refusals 1, 5, 8, the last also where a playing tick would leave a frame that is not finite. */
 menu_ticked menu_tick(menu_player player, const uint8_t *sheet, size_t sheet_len, float dt, float fps);
 
 /* ---- editing: the keys are those that menu_load filled
@@ -285,7 +309,8 @@ uint8_t menu_save(menu_player player, const uint8_t *sheet, size_t sheet_len, co
 /* ---- dragging: a key is moved any number of times, and undo sees one edit or none
  *
  * While a drag is open, edits, undo, redo and a second opening are declined by 15. Plays, poses, ticks, readings and
- * saves go on and see the key where it is. */
+ * saves go on and see the key where it is. An open drag whose row is out of range is declined by 5, and so is, where keys
+ * are taken, one whose starting key, put back, would break the key rules. */
 
 /* Opens a drag of a key of the active animation, and remembers the key as it is. Refusals 1, 3 to 6, 15, 7. */
 menu_played menu_open_drag(menu_player player, const uint8_t *sheet, size_t sheet_len, const float *frames,
@@ -322,9 +347,9 @@ menu_read_one menu_read_material(menu_player player, const uint8_t *sheet, size_
                                  size_t values_len, const float *slopes, size_t slopes_len, uint16_t material,
                                  uint16_t channel);
 
-/* Every channel, panes first: a mark (0 or 1) and a number (0 where unmarked). Both outputs are MENU_PANE_CHANNELS a
- * pane and MENU_MATERIAL_CHANNELS a material long: channel c of pane p is at p * MENU_PANE_CHANNELS + c, and of material m,
- * after all panes, at m * MENU_MATERIAL_CHANNELS + c. Refusals 1 to 5, 13. */
+/* Every channel, panes first: a mark (0 or 1) and a number (0 where unmarked). Both outputs are as long as
+ * the book has channels (menu_book_counts): channel c of pane p is at p * MENU_PANE_CHANNELS + c, and of material m, after
+ * all panes, at m * MENU_MATERIAL_CHANNELS + c. Refusals 1 to 5, 13. */
 uint8_t menu_read_all(menu_player player, const uint8_t *sheet, size_t sheet_len, const uint8_t *book, size_t book_len,
                       const float *frames, size_t frames_len, const float *values, size_t values_len,
                       const float *slopes, size_t slopes_len, uint8_t *marks, size_t marks_len, float *numbers,
@@ -349,7 +374,7 @@ uint8_t menu_texture_name(menu_player player, const uint8_t *sheet, size_t sheet
                           uint8_t *out, size_t out_len);
 
 /* Each pane's visibility (0 or 1) and alpha under its parents, and the influence that it hands its children. The three
- * outputs are as long as the book has panes. Refusals 1 to 5, 13. */
+ * outputs are as long as the book has panes (menu_book_counts). Refusals 1 to 5, 13. */
 uint8_t menu_cascade(menu_player player, const uint8_t *sheet, size_t sheet_len, const uint8_t *book, size_t book_len,
                      const float *frames, size_t frames_len, const float *values, size_t values_len,
                      const float *slopes, size_t slopes_len, uint8_t *visible, size_t visible_len, float *alpha,

@@ -2,47 +2,58 @@
 //!
 //!     cargo run --example play -- ../samples/title.sheet ../samples/title.book 0
 
-use std::error::Error;
-use std::{env, fs};
+mod common;
 
-use dovebolt::{Channels, MaterialChannel, PaneChannel, Player, Tick, material_count, pane_count};
+use std::env;
+use std::error::Error;
+use std::process::ExitCode;
+
+use common::{ended, named, read};
+use dovebolt::{
+    BookView, Channel, Channels, MaterialChannel, PaneChannel, Player, Refusal, SheetView, Tick,
+};
 
 /// A looping animation never ends: this many frames of it are enough to see.
 const MOST: usize = 100;
 
 /// The channels whose number is not what it was, by pane or material and by name.
-fn print_changes(book: &[u8], before: Option<&Channels>, now: &Channels) {
-    let panes = (0..pane_count(book) as u16)
-        .flat_map(|pane| PaneChannel::ALL.map(|c| (c.place(pane), format!("pane {pane} {c}"))));
-    let materials = (0..material_count(book) as u16).flat_map(|material| {
-        MaterialChannel::ALL.map(|c| (c.place(book, material), format!("material {material} {c}")))
+fn print_changes(book: BookView, before: Option<&Channels>, now: &Channels) {
+    let panes = book
+        .panes()
+        .flat_map(|pane| PaneChannel::ALL.map(|c| (pane.number, Channel::Pane(c), "pane")));
+    let materials = book.materials().flat_map(|material| {
+        MaterialChannel::ALL.map(|c| (material.number, Channel::Material(c), "material"))
     });
-    for (place, name) in panes.chain(materials) {
+    for (row, channel, of) in panes.chain(materials) {
+        let place = book.place(row, channel);
         let number = now.get(place);
         if number != before.and_then(|b| b.get(place)) {
             match number {
-                Some(x) => println!("    {name}: {x}"),
-                None => println!("    {name}: no override"),
+                Some(x) => println!("    {of} {row} {channel}: {x}"),
+                None => println!("    {of} {row} {channel}: no override"),
             }
         }
     }
 }
 
-fn main() -> Result<(), Box<dyn Error>> {
-    let words: Vec<String> = env::args().skip(1).collect();
-    let [sheet, book, animation] = &words[..] else {
-        return Err("usage: play SHEET BOOK ANIMATION".into());
-    };
-    let (sheet, book, animation) = (fs::read(sheet)?, fs::read(book)?, animation.parse()?);
+fn play(sheet_file: &str, book_file: &str, animation: &str) -> Result<(), Box<dyn Error>> {
+    let number = named(&format!("animation {animation:?}"), animation.parse())?;
+    let (sheet, book) = (read(sheet_file)?, read(book_file)?);
+    let animations = named(sheet_file, SheetView::of(&sheet))?;
+    let view = named(book_file, BookView::of(&book))?;
+    // To the player 65,535 is no animation, which it accepts.
+    let asked = format!("{sheet_file}: animation {number}");
+    let found = animations.animation(number).ok_or(Refusal::Animation);
+    named(&asked, found)?;
 
     let (mut player, keys) = Player::load(&sheet)?;
-    player.play(&sheet, Some(animation))?;
+    player.play(&sheet, Some(number))?;
     let mut before = None;
     let mut tick = Tick::Running;
     for _ in 0..MOST {
         println!("frame {}: {tick:?}", player.frame());
         let now = player.read_all(&sheet, &book, &keys)?;
-        print_changes(&book, before.as_ref(), &now);
+        print_changes(view, before.as_ref(), &now);
         before = Some(now);
         if tick != Tick::Running {
             break;
@@ -53,4 +64,13 @@ fn main() -> Result<(), Box<dyn Error>> {
         println!("next: {}", player.next_name(&sheet)?);
     }
     Ok(())
+}
+
+fn main() -> ExitCode {
+    let words: Vec<String> = env::args().skip(1).collect();
+    let done = match &words[..] {
+        [sheet, book, animation] => play(sheet, book, animation),
+        _ => Err("usage: play SHEET BOOK ANIMATION".into()),
+    };
+    ended("play", done)
 }

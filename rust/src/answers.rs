@@ -166,6 +166,25 @@ pub struct Srt {
     pub scale: Vector2f,
 }
 
+impl Srt {
+    /// The SRT that leaves texture coordinates as they are.
+    ///
+    /// ```
+    /// use dovebolt::{Srt, uvs};
+    ///
+    /// let Srt { translate, rotate, scale } = Srt::IDENTITY;
+    /// let numbers = [translate.x, translate.y, rotate, scale.x, scale.y];
+    /// let square = [0.0, 0.0, 1.0, 0.0, 0.0, 1.0, 1.0, 1.0];
+    /// assert_eq!(uvs(&square, &numbers)?, uvs(&square, &[])?);
+    /// # Ok::<(), dovebolt::Refusal>(())
+    /// ```
+    pub const IDENTITY: Srt = Srt {
+        translate: Vector2f { x: 0.0, y: 0.0 },
+        rotate: 0.0,
+        scale: Vector2f { x: 1.0, y: 1.0 },
+    };
+}
+
 /// A pane under its parents, and the influence that it hands its children.
 ///
 /// ```

@@ -42,8 +42,32 @@
 //! assert_eq!(player.save(&sheet, &keys)?, sheet);
 //! # Ok::<(), dovebolt::Refusal>(())
 //! ```
+//!
+//! Sheets and books are written by builders, which check what they are given and name the row that breaks a rule, and read
+//! row by row by views, which are made only of what the proved code accepts.
+//!
+//! ```
+//! use dovebolt::{BookBuilder, BookView, PaneChannel, SheetBuilder, SheetView};
+//!
+//! let mut sheet = SheetBuilder::new();
+//! let appear = sheet.animation(16).next("Idle");
+//! appear.pane("Logo").hermite(PaneChannel::TranslateY, &[(0.0, 360.0, 0.0), (12.0, 96.0, 0.0)]);
+//! let mut book = BookBuilder::new();
+//! book.pane("Root").size(1280.0, 720.0);
+//! book.pane("Logo").parent("Root").size(512.0, 192.0);
+//!
+//! let (sheet, book) = (sheet.build()?, book.build()?);
+//! let (sheet, book) = (SheetView::of(&sheet)?, BookView::of(&book)?);
+//! for track in sheet.tracks() {
+//!     let (pane, channel) = book.reached(&track).unwrap();
+//!     assert_eq!((pane, channel.name(), track.key_count), (1, "translate_y", 2));
+//! }
+//! # Ok::<(), Box<dyn std::error::Error>>(())
+//! ```
 
+mod address;
 mod answers;
+mod builder;
 mod channels;
 mod dragging;
 pub mod example;
@@ -54,8 +78,14 @@ pub mod raw;
 mod readings;
 mod refusal;
 mod shapes;
+mod view;
 
+pub use address::{Address, Channel, ContentKind};
 pub use answers::{Cascaded, Channels, Edited, Reading, ResolvedPane, Srt, Tick, Transform};
+pub use builder::{
+    AnimationBuilder, BookBuilder, BuildError, ContentBuilder, MaterialBuilder, PaneBuilder,
+    Problem, Row, SheetBuilder,
+};
 pub use channels::{MaterialChannel, PaneChannel};
 pub use dragging::Drag;
 pub use formats::{
@@ -66,3 +96,6 @@ pub use player::Player;
 pub use raw::{Corners, Vector2f, Vector3f};
 pub use refusal::Refusal;
 pub use shapes::{Uvs, corners, rotate_point, translate, uvs, uvs_into};
+pub use view::{
+    Animation, BookView, Content, Curve, Horizontal, Material, Pane, SheetView, Track, Vertical,
+};

@@ -25,6 +25,28 @@ pub const NONE: u16 = 65535;
 /// How many edits the journal holds.
 pub const ROWS: usize = 128;
 
+/// What a sheet holds. The key arrays are `keys` long; on a refusal every count is 0.
+#[repr(C)]
+#[derive(Clone, Copy, Debug, Default, PartialEq)]
+pub struct SheetCounts {
+    pub refusal: u8,
+    pub animations: u16,
+    pub contents: u16,
+    pub tracks: u16,
+    pub keys: u16,
+    pub textures: u16,
+}
+
+/// What a book holds. A whole reading is `channels` long; on a refusal every count is 0.
+#[repr(C)]
+#[derive(Clone, Copy, Debug, Default, PartialEq)]
+pub struct BookCounts {
+    pub refusal: u8,
+    pub panes: u16,
+    pub materials: u16,
+    pub channels: u16,
+}
+
 /// The edits that can be undone or redone. Row n % 128 belongs to standing edit number n.
 #[repr(C)]
 #[derive(Clone, Copy, Debug, PartialEq)]
@@ -175,6 +197,8 @@ pub struct Turned {
 }
 
 unsafe extern "C" {
+    pub fn menu_sheet_counts(sheet: *const u8, sheet_len: usize) -> SheetCounts;
+    pub fn menu_book_counts(book: *const u8, book_len: usize) -> BookCounts;
     pub fn menu_load(
         sheet: *const u8,
         sheet_len: usize,

@@ -1,7 +1,10 @@
 //! Every field of every struct that crosses the C ABI, as the library fills it. In each state the fields of one type hold
 //! different values, so that two that were swapped would be seen.
 
+use std::collections::HashSet;
+use std::fs;
 use std::mem::{align_of, offset_of, size_of};
+use std::path::Path;
 
 use dovebolt::raw::{self, Journal};
 use dovebolt::{
@@ -22,6 +25,17 @@ fn loaded() -> (Vec<u8>, Player, Keys) {
 
 #[test]
 fn sizes() {
+    assert_eq!(
+        (
+            size_of::<raw::SheetCounts>(),
+            align_of::<raw::SheetCounts>()
+        ),
+        (12, 2)
+    );
+    assert_eq!(
+        (size_of::<raw::BookCounts>(), align_of::<raw::BookCounts>()),
+        (8, 2)
+    );
     assert_eq!((size_of::<Journal>(), align_of::<Journal>()), (3584, 4));
     assert_eq!((size_of::<raw::Drag>(), align_of::<raw::Drag>()), (20, 4));
     assert_eq!(
@@ -87,9 +101,74 @@ fn offsets() {
         offsets!(raw::Drag: open, moved, track, key, start_frame, start_value, start_slope),
         [0, 1, 2, 4, 8, 12, 16]
     );
+    assert_eq!(
+        offsets!(raw::SheetCounts: refusal, animations, contents, tracks, keys, textures),
+        [0, 2, 4, 6, 8, 10]
+    );
+    assert_eq!(
+        offsets!(raw::BookCounts: refusal, panes, materials, channels),
+        [0, 2, 4, 6]
+    );
     assert_eq!(offsets!(raw::Played: refusal, player), [0, 8]);
     assert_eq!(offsets!(raw::Edited: refusal, unchanged, player), [0, 1, 8]);
     assert_eq!(offsets!(raw::Ticked: refusal, answer, player), [0, 1, 8]);
+}
+
+fn sample(name: &str) -> Vec<u8> {
+    let folder = Path::new(env!("CARGO_MANIFEST_DIR")).join("../samples");
+    fs::read(folder.join(name)).unwrap()
+}
+
+/// The first `N` numbers of a file, which are its counts.
+fn head<const N: usize>(file: &[u8]) -> [u16; N] {
+    std::array::from_fn(|n| u16::from_le_bytes([file[2 * n], file[2 * n + 1]]))
+}
+
+/// Of a sheet whose five counts differ; one byte less, and nothing is counted.
+#[test]
+fn sheet_counts() {
+    let sheet = sample("title.sheet");
+    let held @ [animations, contents, tracks, keys, textures] = head(&sheet);
+    assert_eq!(held.iter().collect::<HashSet<_>>().len(), 5);
+    // SAFETY: the pointer has as many elements as the length after it says.
+    let counted = |len| unsafe { raw::menu_sheet_counts(sheet.as_ptr(), len) };
+    let expected = raw::SheetCounts {
+        refusal: 0,
+        animations,
+        contents,
+        tracks,
+        keys,
+        textures,
+    };
+    assert_eq!(counted(sheet.len()), expected);
+    let declined = raw::SheetCounts {
+        refusal: 1,
+        ..Default::default()
+    };
+    assert_eq!(counted(sheet.len() - 1), declined);
+    assert_eq!(counted(0), declined);
+}
+
+#[test]
+fn book_counts() {
+    let book = sample("title.book");
+    let [panes, materials] = head(&book);
+    assert_ne!(panes, materials);
+    // SAFETY: as above.
+    let counted = |len| unsafe { raw::menu_book_counts(book.as_ptr(), len) };
+    let expected = raw::BookCounts {
+        refusal: 0,
+        panes,
+        materials,
+        channels: 28 * panes + 30 * materials,
+    };
+    assert_eq!(counted(book.len()), expected);
+    let declined = raw::BookCounts {
+        refusal: 2,
+        ..Default::default()
+    };
+    assert_eq!(counted(book.len() - 1), declined);
+    assert_eq!(counted(0), declined);
 }
 
 #[test]

@@ -88,6 +88,8 @@ fn filmstrip_failures() {
         let expected = format!("{}: animation {number}: refusal 6: ", shown(&sheet));
         fails([&sheet, &book, Path::new(number), &folder], expected);
     }
-    let expected = "first is not the number of an animation\n".to_string();
-    fails([&sheet, &book, Path::new("first"), &folder], expected);
+    for word in ["first", "65536", ""] {
+        let expected = format!("animation {word:?}: ");
+        fails([&sheet, &book, Path::new(word), &folder], expected);
+    }
 }

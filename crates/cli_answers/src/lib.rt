@@ -1,8 +1,5 @@
-// Makes a call and writes its answer: `ok` or `unchanged`, what was asked for, or the refusal in words.
-mod resolved;
-mod shown;
-mod state;
-mod tracks;
+// Makes a call and writes its answer behind what stands for the call: `ok` or `unchanged`, what was asked for, or why it is declined.
+mod edited;
 
 use cli_calls::ABANDON;
 use cli_calls::Call;
@@ -16,7 +13,13 @@ use cli_calls::REDO;
 use cli_calls::SLOPE;
 use cli_calls::TICK;
 use cli_calls::UNDO;
-use cli_printed::say;
+use cli_page::Out;
+use cli_page::PAGE;
+use cli_page::end;
+use cli_page::word;
+use cli_why::say_declined;
+use edited::edits;
+use edited::say_edit;
 use menu::Edited;
 use menu::Played;
 use player::Player;
@@ -24,10 +27,10 @@ use player::Tick;
 ghost use Rattle.sheet.specs.Checked.{Checked};
 ghost use Rattle.book.specs.Checked.{CheckedBook};
 
-// A line with the refusal.
-fn refused(n: u8) {
-    cli_printed::say_refusal(n);
-    say(b"\n");
+// The player after a call, and the output with its answer.
+pub struct Answered {
+    pub out: Out,
+    pub player: Player,
 }
 
 // An edit of a key, a drag or a drop.
@@ -68,15 +71,6 @@ fn change(
     }
 }
 
-// A drag and a drop are of the key that is held.
-fn of_held_key(verb: u8) -> bool {
-    (verb == DRAG) | (verb == DROP)
-}
-
-fn edits(verb: u8) -> bool {
-    (verb == KEY) | (verb == SLOPE) | of_held_key(verb)
-}
-
 fn changes(verb: u8) -> bool {
     (verb == PLAY)
         | (verb == POSE)
@@ -86,62 +80,53 @@ fn changes(verb: u8) -> bool {
         | (verb == ABANDON)
 }
 
-fn say_tick(s: &[u8], animation: u16, answer: Tick) {
+fn say_tick(o: Out, page: &mut [u8; PAGE], s: &[u8], animation: u16, answer: Tick) -> Out {
     match answer {
-        Tick::Idle => say(b"idle\n"),
-        Tick::Running => say(b"running\n"),
-        Tick::Ended => say(b"ended\n"),
+        Tick::Idle => word(o, page, b" ", b"answer", b"idle"),
+        Tick::Running => word(o, page, b" ", b"answer", b"running"),
+        Tick::Ended => word(o, page, b" ", b"answer", b"ended"),
         Tick::Next => {
-            say(b"ended next ");
-            cli_printed::say_name(menu::next_name(s, animation));
-            say(b"\n");
+            let p = word(o, page, b" ", b"answer", b"ended");
+            cli_printed::name(p, page, b" next ", b"next", menu::next_name(s, animation))
         }
     }
 }
 
-fn tick(p: Player, s: &[u8], dt: f32, fps: f32) -> Player {
-    let t = menu::tick(p, s, dt, fps);
-    let q = t.player;
+fn tick<'a>(o: Out, page: &mut [u8; PAGE], p: Player, c: Call, s: &'a [u8], b: &'a [u8]) -> Answered
+    requires { ⌜ Checked (now s) × CheckedBook (now b) ⌝ }
+{
+    let t = menu::tick(p, s, c.x, c.y);
+    let player = t.player;
     if t.refusal != 0 {
-        refused(t.refusal);
-        return q;
+        let out = say_declined(o, page, t.refusal, p.selection, c, s, b);
+        return Answered { out, player };
     }
     let answer = t.answer;
-    say_tick(s, q.selection, answer);
-    q
+    let out = say_tick(o, page, s, player.selection, answer);
+    Answered { out, player }
 }
 
-fn say_change(refusal: u8) {
-    if refusal != 0 {
-        refused(refusal);
-        return;
-    }
-    say(b"ok\n");
-}
-
-// An accepted edit tells the key as it is stored: `p` is the player before it, which says what key is held.
-fn say_edit(p: Player, c: Call, r: Edited, s: &[u8], frames: &[f32], values: &[f32], slopes: &[f32])
-    requires { ⌜ Checked (now s) ⌝ }
+fn say_change<'a>(
+    o: Out,
+    page: &mut [u8; PAGE],
+    refusal: u8,
+    active: u16,
+    c: Call,
+    s: &'a [u8],
+    b: &'a [u8],
+) -> Out
+    requires { ⌜ Checked (now s) × CheckedBook (now b) ⌝ }
 {
-    if r.refusal != 0 {
-        refused(r.refusal);
-        return;
+    if refusal != 0 {
+        return say_declined(o, page, refusal, active, c, s, b);
     }
-    if r.unchanged {
-        say(b"unchanged");
-    } else {
-        say(b"ok");
-    }
-    let d = p.drag;
-    if of_held_key(c.verb) {
-        tracks::say_key(s, d.track, d.key, frames, values, slopes);
-        return;
-    }
-    tracks::say_key(s, c.first, c.second, frames, values, slopes);
+    word(o, page, b" ", b"answer", b"ok")
 }
 
-// The player after a call, whose answer is written.
-pub fn answer<'a>(
+// The answer of a call that may change something, without the line's end.
+fn changed<'a>(
+    o: Out,
+    page: &mut [u8; PAGE],
     p: Player,
     c: Call,
     s: &'a [u8],
@@ -149,22 +134,45 @@ pub fn answer<'a>(
     frames: &mut [f32],
     values: &mut [f32],
     slopes: &mut [f32],
-) -> Player
+) -> Answered
     requires { ⌜ Checked (now s) × CheckedBook (now b) ⌝ }
 {
     if c.verb == TICK {
-        return tick(p, s, c.x, c.y);
+        return tick(o, page, p, c, s, b);
     }
     if edits(c.verb) {
         let r = edit(p, c, s, frames, values, slopes);
-        say_edit(p, c, r, s, frames, values, slopes);
-        return r.player;
+        let player = r.player;
+        let out = say_edit(o, page, p, c, r, s, b, frames, values, slopes);
+        return Answered { out, player };
     }
-    if changes(c.verb) {
-        let r = change(p, c, s, frames, values, slopes);
-        say_change(r.refusal);
-        return r.player;
+    let r = change(p, c, s, frames, values, slopes);
+    let player = r.player;
+    let out = say_change(o, page, r.refusal, p.selection, c, s, b);
+    Answered { out, player }
+}
+
+// Makes the call of a line; what stands for the call is written already.
+pub fn answer<'a>(
+    o: Out,
+    page: &mut [u8; PAGE],
+    line: u64,
+    p: Player,
+    c: Call,
+    s: &'a [u8],
+    b: &'a [u8],
+    frames: &mut [f32],
+    values: &mut [f32],
+    slopes: &mut [f32],
+) -> Answered
+    requires { ⌜ Checked (now s) × CheckedBook (now b) ⌝ }
+{
+    if (c.verb == TICK) | edits(c.verb) | changes(c.verb) {
+        let a = changed(o, page, p, c, s, b, frames, values, slopes);
+        let player = a.player;
+        let out = end(a.out, page);
+        return Answered { out, player };
     }
-    shown::show(p, c, s, b, frames, values, slopes);
-    p
+    let out = cli_shown::show(o, page, line, p, c, s, b, frames, values, slopes);
+    Answered { out, player: p }
 }

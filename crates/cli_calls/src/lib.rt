@@ -1,5 +1,6 @@
-// A line of a list of calls: a verb, its whole numbers, its numbers. What can't be read is told by the place of the word and what is wrong with it.
+// A line of a list of calls, its comment taken off: a verb, its whole numbers or names, its numbers. What can't be read is told by the place of the word and what is wrong with it.
 mod argument;
+mod named;
 mod verb;
 
 use argument::number_word;
@@ -31,6 +32,7 @@ pub use verb::UNDO;
 use verb::Verb;
 use verb::verb_of;
 ghost use Prim.Native.Nat.{_≤_};
+ghost use Rattle.book.specs.Checked.{CheckedBook};
 ghost use Rattle.cli_calls.specs.Few.{Few};
 
 // What is wrong with a word.
@@ -43,6 +45,8 @@ pub const NO_WHOLE: u8 = 3;
 pub const NO_NUMBER: u8 = 4;
 
 pub const TOO_MANY: u8 = 5;
+
+pub const NO_NAME: u8 = 6;
 
 // A call with its arguments, 0 where it takes fewer; or, where fault is not 0, which word is wrong.
 pub struct Call {
@@ -71,6 +75,9 @@ fn wrong(fault: u8, word: usize) -> Call {
 fn whole_fault(n: u32, word: usize) -> Call {
     if n == argument::ABSENT {
         return wrong(MISSING, word);
+    }
+    if n == argument::UNNAMED {
+        return wrong(NO_NAME, word);
     }
     wrong(NO_WHOLE, word)
 }
@@ -107,8 +114,10 @@ fn with_numbers(line: &[u8], v: Verb, k: usize, first: u16, second: u16) -> Call
     }
 }
 
-// The call that a line writes; one that is empty or a comment is no call, and no fault.
-pub fn call_of(line: &[u8]) -> Call {
+// The call that a line writes; one that is empty is no call, and no fault. Panes and materials may go by the names that the book has.
+pub fn call_of(line: &[u8], b: &[u8]) -> Call
+    requires { ⌜ CheckedBook (now b) ⌝ }
+{
     let v = verb_of(line);
     if v.code == verb::NO_VERB {
         return wrong(UNKNOWN, 0);
@@ -116,11 +125,11 @@ pub fn call_of(line: &[u8]) -> Call {
     if v.code == NOTHING {
         return wrong(0, 0);
     }
-    let a = whole_word(line, v, 0);
+    let a = whole_word(line, b, v, 0);
     if a >= argument::ABSENT {
         return whole_fault(a, v.from);
     }
-    let b = whole_word(line, v, 1);
+    let b = whole_word(line, b, v, 1);
     if b >= argument::ABSENT {
         return whole_fault(b, v.from + 1);
     }

@@ -166,15 +166,12 @@ fn dragging_verb(line: &[u8]) -> Verb
     showing_verb(line)
 }
 
-// The verbs that change something; an empty line and a comment are nothing.
+// The verbs that change something; an empty line is nothing.
 pub fn verb_of(line: &[u8]) -> Verb
     ensures { λ r. ⌜ Few r ⌝ }
 {
     let w = word(line, 0);
     if w.len() == 0 {
-        return one(NOTHING, 0, 0);
-    }
-    if w[0] == 35 {
         return one(NOTHING, 0, 0);
     }
     if same(w, b"play") {

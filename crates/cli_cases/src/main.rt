@@ -1,117 +1,143 @@
-// First mistakes, files of every kind, sheets that are saved, and drags, on the command line: each case with a heading, and what it is answered.
-use cli_printed::say;
+// First mistakes, files of every kind, why they are declined, what is in them, sheets that are saved, drags, names and JSON, on the command line: each case with
+// a heading, what it is answered, and what it came to. Errors stand in line here, since only standard output is compared.
+use cli_page::Out;
+use cli_page::PAGE;
+use cli_page::say;
 use libc::STDIN_FILENO;
 
-fn say_word(line: &[u8], i: usize) {
-    let word = cli_words::line(line, i);
-    if word.len() > 0 {
-        say(b" ");
-        say(word);
+// The words of a case.
+fn say_words(o: Out, page: &mut [u8; PAGE], line: &[u8]) -> Out {
+    let n = cli_words::pieces(line);
+    let mut p = o;
+    let mut i = 0;
+    while i < n {
+        p = say(say(p, page, b" "), page, cli_words::piece(line, i));
+        i += 1;
     }
+    p
 }
 
-// The command line of a case, which has eight words at most.
-fn heading(line: &[u8]) {
-    say(b"== menu_cli");
-    say_word(line, 0);
-    say_word(line, 1);
-    say_word(line, 2);
-    say_word(line, 3);
-    say_word(line, 4);
-    say_word(line, 5);
-    say_word(line, 6);
-    say_word(line, 7);
+fn run(o: Out, page: &mut [u8; PAGE], line: &[u8]) {
+    let p = cli_console::run(say(o, page, b"\n"), page, line);
+    let q = Out { json: false, ..p };
+    let r = cli_page::count(q, page, b"status ", b"status", p.status as u64);
+    cli_page::flush(cli_page::end(r, page), page);
 }
 
 fn case(line: &[u8]) {
-    heading(line);
-    say(b"\n");
-    cli_console::run(line);
+    let mut page = [0u8; PAGE];
+    let o = cli_page::fresh(false, false, false);
+    let p = say(o, &mut page, b"== menu_cli");
+    let q = say_words(p, &mut page, line);
+    run(q, &mut page, line);
 }
 
 // A case with a list of calls in the place of standard input: a file is opened by the lowest number that is free, as a shell's `<` has it.
 fn list(line: &[u8], calls: &[u8]) {
-    heading(line);
-    say(b" < ");
-    say(calls);
-    say(b"\n");
+    let mut page = [0u8; PAGE];
+    let o = cli_page::fresh(false, false, false);
+    let p = say(o, &mut page, b"== menu_cli");
+    let q = say_words(p, &mut page, line);
+    let r = say(say(q, &mut page, b" < "), &mut page, calls);
     libc::close(STDIN_FILENO);
     os::open_read(calls);
-    cli_console::run(line);
+    run(r, &mut page, line);
 }
 
 fn usage_cases() {
     case(b"");
     case(b"help");
-    case(b"jump\ntitle.sheet");
+    case(b"help\0refusals");
+    case(b"check\0--help\0--json");
+    case(b"--version");
+    case(b"version\0--json");
+    case(b"jump\0title.sheet");
+    case(b"check\0--loud\0title.sheet");
     case(b"--quiet");
+    case(b"check\0\0title.book\0");
 }
 
 fn check_cases() {
     case(b"check");
-    case(b"check\ntitle.sheet");
-    case(b"check\ntitle.sheet\ntitle.book");
-    case(b"check\ntitle.book");
-    case(b"check\ntitle.book\ntitle.sheet");
-    case(b"check\nmissing.sheet\ntitle.book");
-    case(b"check\nempty\nlong");
-    case(b"check\ncut.sheet\nempty");
-    case(b"check\ndamaged.sheet\ndamaged.book");
-    case(b"check\nfalling.sheet");
-    case(b"check\ntitle.sheet\ntitle.book\nmore");
+    case(b"check\0title.sheet");
+    case(b"check\0title.sheet\0title.book");
+    case(b"check\0title.book\0title.sheet\0close.sheet\0title.book");
+    case(b"check\0missing.sheet\0title.book");
+    case(b"check\0empty\0long\0.");
+    case(b"check\0cut.sheet\0damaged.sheet\0damaged.book");
+    case(b"check\0falling.sheet");
+    case(b"check\0--json\0falling.sheet\0damaged.book\0title.sheet\0missing.book\0title.book");
+}
+
+fn info_cases() {
+    case(b"info");
+    case(b"info\0title.sheet\0title.book");
+    case(b"info\0title.sheet\0--json");
+    case(b"info\0falling.sheet");
+    case(b"info\0title.sheet\0damaged.book");
+    case(b"info\0title.sheet\0title.book\0more");
 }
 
 fn file_cases() {
     case(b"frames");
-    case(b"frames\ntitle.sheet");
-    case(b"frames\ntitle.book\ntitle.sheet\n0");
-    case(b"frames\ntitle.sheet\ntitle.sheet\n0");
-    case(b"frames\ntitle.sheet\nmissing.book\n0");
-    case(b"frames\nfalling.sheet\ntitle.book\n0");
-    case(b"frames\ntitle.sheet\ndamaged.book\n0");
+    case(b"frames\0title.sheet");
+    case(b"frames\0title.book\0title.sheet\00");
+    case(b"frames\0title.sheet\0title.sheet\00");
+    case(b"frames\0title.sheet\0missing.book\00");
+    case(b"frames\0falling.sheet\0title.book\00");
+    case(b"frames\0title.sheet\0damaged.book\00");
 }
 
 fn number_cases() {
-    case(b"frames\ntitle.sheet\ntitle.book");
-    case(b"frames\ntitle.sheet\ntitle.book\n3");
-    case(b"frames\ntitle.sheet\ntitle.book\nx");
-    case(b"frames\ntitle.sheet\ntitle.book\n-1");
-    case(b"frames\ntitle.sheet\ntitle.book\n0\n5\n3");
-    case(b"frames\ntitle.sheet\ntitle.book\n0\n5");
-    case(b"frames\ntitle.sheet\ntitle.book\n0\nx\n3");
-    case(b"frames\ntitle.sheet\ntitle.book\n0\n16777216\n16777217");
-    case(b"frames\ntitle.sheet\ntitle.book\n0\n0\n1\n2");
+    case(b"frames\0title.sheet\0title.book");
+    case(b"frames\0title.sheet\0title.book\03");
+    case(b"frames\0title.sheet\0title.book\0x");
+    case(b"frames\0title.sheet\0title.book\0-1");
+    case(b"frames\0title.sheet\0title.book\00\05\03");
+    case(b"frames\0title.sheet\0title.book\00\05");
+    case(b"frames\0title.sheet\0title.book\00\0x\03");
+    case(b"frames\0title.sheet\0title.book\00\016777216\016777217");
+    case(b"frames\0title.sheet\0title.book\00\00\01\02");
 }
 
 fn frame_cases() {
-    case(b"frames\ntitle.sheet\ntitle.book\n2\n4\n4");
-    case(b"--quiet\nframes\ntitle.sheet\n--quiet\ntitle.book\n1\n40\n40");
-    case(b"frames\ntitle.sheet\ntitle.book\n1\n70000\n70000");
-    case(b"replay\ntitle.book\ntitle.sheet");
-    case(b"replay\ntitle.sheet\ntitle.book\n0");
+    case(b"frames\0title.sheet\0title.book\02\04\04");
+    case(b"--quiet\0frames\0title.sheet\0--quiet\0title.book\01\040\040");
+    case(b"frames\0title.sheet\0title.book\01\040\040\0--json");
+    case(b"frames\0title.sheet\0title.book\01\070000\070000");
+    case(b"replay\0title.book\0title.sheet");
+    case(b"replay\0title.sheet\0title.book\00");
 }
 
 // An edited sheet is saved, checked, and loaded again. A program is run in a folder of its own, so that the file stays in no other.
 fn save_cases() {
-    list(b"replay\ntitle.sheet\ntitle.book", b"edit.calls");
-    case(b"check\nedited.sheet");
-    list(b"replay\nedited.sheet\ntitle.book", b"again.calls");
+    list(b"replay\0title.sheet\0title.book", b"edit.calls");
+    case(b"check\0edited.sheet");
+    list(b"replay\0edited.sheet\0title.book", b"again.calls");
 }
 
 // A key is dragged and the sheet saved meanwhile; loaded again, the key is dragged back and dropped. In the last sheet a key has no room.
 fn drag_cases() {
-    list(b"replay\ntitle.sheet\ntitle.book", b"drag.calls");
-    case(b"check\ndragged.sheet");
-    list(b"replay\ndragged.sheet\ntitle.book", b"drop.calls");
-    list(b"replay\nclose.sheet\ntitle.book", b"close.calls");
+    list(b"replay\0title.sheet\0title.book", b"drag.calls");
+    case(b"check\0dragged.sheet");
+    list(b"replay\0dragged.sheet\0title.book", b"drop.calls");
+    list(b"replay\0close.sheet\0title.book", b"close.calls");
+}
+
+// Names in the place of numbers, quotes, comments, control bytes, and what a call declines.
+fn name_cases() {
+    list(b"replay\0title.sheet\0title.book", b"names.calls");
+    list(b"replay\0title.sheet\0title.book\0--json", b"names.calls");
 }
 
 fn main() {
     usage_cases();
     check_cases();
+    info_cases();
     file_cases();
     number_cases();
     frame_cases();
     save_cases();
     drag_cases();
+    name_cases();
 }

@@ -1,20 +1,37 @@
-// A command line: its words, the files that it names, its whole numbers, and what is said where it is wrong.
+// A command line: its words and options, the files that it names, its whole numbers, and what is said where it is wrong.
 mod arguments;
+mod errors;
 mod file;
+mod help;
 mod span;
 mod told;
 
 pub use arguments::argument;
+pub use arguments::argument_count;
+pub use arguments::argument_place;
+pub use arguments::has_empty;
+pub use arguments::has_option;
+pub use arguments::is_option;
 pub use arguments::join;
-pub use arguments::quiet;
+pub use arguments::unknown_option;
+pub use errors::begin_error;
+pub use errors::end_error;
+pub use errors::file_error;
+pub use errors::missing;
+pub use errors::too_many;
+pub use errors::word_error;
+pub use file::Got;
 pub use file::LONGEST;
+pub use file::NOT_OPENED;
+pub use file::NOT_WHOLE;
 pub use file::read;
+pub use file::try_read;
 pub use file::write;
+pub use help::say_version;
+pub use help::usage;
 pub use span::Span;
+pub use span::Whole;
 pub use span::span_of;
 pub use span::whole_argument;
-pub use told::missing;
 pub use told::progress;
-pub use told::too_many;
-pub use told::unknown;
-pub use told::usage;
+pub use told::progress_end;

@@ -1,41 +1,73 @@
-// The commands of the command line. A command line is a text with a word a line; every outcome is a line on standard output.
+// The commands of the command line. A command line is a text of words, each ended by a zero byte.
 mod check;
 mod frames;
+mod info;
 mod open;
+mod program;
 mod replay;
 
 use cli_command::argument;
+use cli_command::has_option;
+use cli_command::word_error;
+use cli_page::Out;
+use cli_page::PAGE;
+use cli_words::same;
+pub use program::start;
 
-// One command.
-pub fn run(line: &[u8]) {
+// One command that has a name.
+fn command(o: Out, page: &mut [u8; PAGE], line: &[u8]) -> Out {
     let name = argument(line, 0);
-    if cli_words::same(name, b"check") {
-        check::check(line);
-        return;
+    if same(name, b"check") {
+        return check::check(o, page, line);
     }
-    if cli_words::same(name, b"frames") {
-        open::open(line, false);
-        return;
+    if same(name, b"info") {
+        return info::info(o, page, line);
     }
-    if cli_words::same(name, b"replay") {
-        open::open(line, true);
-        return;
+    if same(name, b"frames") {
+        return open::open(o, page, line, false);
     }
-    if name.len() > 0 {
-        if !cli_words::same(name, b"help") {
-            cli_command::unknown(name);
-        }
+    if same(name, b"replay") {
+        return open::open(o, page, line, true);
     }
-    cli_command::usage();
+    word_error(o, page, name, b"is no command; menu_cli help lists them")
 }
 
-// The whole program: the command that its arguments are.
-pub fn start() {
-    let mut line = [0u8; 8192];
-    let n = cli_command::join(&mut line);
-    if n == 8192 {
-        cli_printed::say(b"error: the arguments are longer than 8,191 bytes together\n");
-        return;
+fn help(o: Out, page: &mut [u8; PAGE], line: &[u8]) -> Out {
+    let topic = argument(line, 1);
+    if same(topic, b"refusals") {
+        return cli_printed::say_refusals(o, page);
     }
-    run(&line[..n]);
+    cli_command::usage(o, page)
+}
+
+// What is asked for before any command: help, the version.
+fn asked(o: Out, page: &mut [u8; PAGE], line: &[u8]) -> Out {
+    let name = argument(line, 0);
+    if same(name, b"help") | has_option(line, b"--help") | has_option(line, b"-h") {
+        return help(o, page, line);
+    }
+    if same(name, b"version") | has_option(line, b"--version") {
+        return cli_command::say_version(o, page);
+    }
+    if name.len() == 0 {
+        return cli_command::missing(o, page, b"the command");
+    }
+    command(o, page, line)
+}
+
+fn checked(o: Out, page: &mut [u8; PAGE], line: &[u8]) -> Out {
+    if cli_command::has_empty(line) {
+        return word_error(o, page, b"\"\"", b"is an empty word");
+    }
+    let unknown = cli_command::unknown_option(line);
+    if unknown.len() > 0 {
+        return word_error(o, page, unknown, b"is no option; menu_cli help lists them");
+    }
+    asked(o, page, line)
+}
+
+// One command line. What it came to is the output's status.
+pub fn run(o: Out, page: &mut [u8; PAGE], line: &[u8]) -> Out {
+    let json = has_option(line, b"--json");
+    checked(Out { json, ..o }, page, line)
 }

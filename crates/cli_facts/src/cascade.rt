@@ -1,46 +1,58 @@
 // The cascade: each pane shown or hidden under its parents, and its alpha.
 use crate::lead::Lead;
-use crate::lead::say_lead;
-use cli_printed::say;
+use crate::lead::begin;
+use crate::readings::marked;
+use crate::readings::number_at;
+use crate::shown::say_shown;
+use cli_page::Out;
+use cli_page::PAGE;
 use player::Player;
 ghost use Prim.Native.Nat.{_<_, _≤_};
 ghost use lib.ListN.{length};
 ghost use Rattle.book.specs.Checked.{CheckedBook};
 ghost use Rattle.book.specs.Sizes.{paneCount};
 
-fn say_pane_state(lead: Lead, b: &[u8], i: usize, visible: &[u8], alpha: &[f32])
+fn say_pane_state(
+    o: Out,
+    page: &mut [u8; PAGE],
+    lead: Lead,
+    b: &[u8],
+    i: usize,
+    visible: &[u8],
+    alpha: &[f32],
+) -> Out
     requires { ⌜ CheckedBook (now b) × (i < paneCount (now b)) ⌝ }
 {
-    if i >= visible.len() {
-        return;
-    }
-    if i >= alpha.len() {
-        return;
-    }
-    say_lead(lead);
-    cli_printed::say_pane(b, i);
-    if visible[i] == 1 {
-        say(b" shown alpha ");
-    } else {
-        say(b" hidden alpha ");
-    }
-    cli_printed::say_number(alpha[i]);
-    say(b"\n");
+    let p = cli_printed::pane(begin(o, page, lead), page, b"pane ", b, i);
+    let q = say_shown(p, page, b" ", marked(visible, i));
+    let r = cli_numbers::number(q, page, b" alpha ", b"alpha", number_at(alpha, i));
+    cli_page::end(r, page)
 }
 
-fn say_states(lead: Lead, b: &[u8], visible: &[u8], alpha: &[f32])
+fn say_states(
+    o: Out,
+    page: &mut [u8; PAGE],
+    lead: Lead,
+    b: &[u8],
+    visible: &[u8],
+    alpha: &[f32],
+) -> Out
     requires { ⌜ CheckedBook (now b) ⌝ }
 {
     let n = book::pane_count(b);
+    let mut p = o;
     let mut i = 0;
     while i < n {
-        say_pane_state(lead, b, i, visible, alpha);
+        p = say_pane_state(p, page, lead, b, i, visible, alpha);
         i += 1;
     }
+    p
 }
 
 // The same with room for the outputs.
 fn say_cascade_in(
+    o: Out,
+    page: &mut [u8; PAGE],
     lead: Lead,
     p: Player,
     s: &[u8],
@@ -51,7 +63,7 @@ fn say_cascade_in(
     visible: &mut [u8],
     alpha: &mut [f32],
     influence: &mut [f32],
-)
+) -> Out
     requires { ⌜ CheckedBook (now b) × ((64 ≤ length (now visible)) × ((64 ≤ length (now alpha)) × (64 ≤ length (now influence)))) ⌝ }
 {
     let n = book::pane_count(b);
@@ -67,16 +79,16 @@ fn say_cascade_in(
         &mut influence[..n],
     );
     if refusal != 0 {
-        say_lead(lead);
-        cli_printed::say_refusal(refusal);
-        say(b"\n");
-        return;
+        let q = begin(o, page, lead);
+        return cli_page::end(cli_printed::refusal(q, page, b"", refusal), page);
     }
-    say_states(lead, b, visible, alpha);
+    say_states(o, page, lead, b, visible, alpha)
 }
 
 // Every pane's state, or the refusal.
 pub fn say_cascade(
+    o: Out,
+    page: &mut [u8; PAGE],
     lead: Lead,
     p: Player,
     s: &[u8],
@@ -84,13 +96,15 @@ pub fn say_cascade(
     frames: &[f32],
     values: &[f32],
     slopes: &[f32],
-)
+) -> Out
     requires { ⌜ CheckedBook (now b) ⌝ }
 {
     let mut visible = [0u8; 64];
     let mut alpha = [0.0f32; 64];
     let mut influence = [0.0f32; 64];
     say_cascade_in(
+        o,
+        page,
         lead,
         p,
         s,
@@ -101,5 +115,5 @@ pub fn say_cascade(
         &mut visible,
         &mut alpha,
         &mut influence,
-    );
+    )
 }

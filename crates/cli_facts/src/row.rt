@@ -1,6 +1,7 @@
 // A texture row: its slot, its number, and the name that the slot resolves to.
-use cli_printed::say;
-use cli_printed::say_count;
+use cli_page::Out;
+use cli_page::PAGE;
+use cli_page::count;
 use player::Player;
 
 // How many texture slots a material has.
@@ -20,7 +21,10 @@ pub fn slot_of(c: u16) -> u16 {
     SLOTS
 }
 
+// ` row N NAME`.
 pub fn say_row<'a>(
+    o: Out,
+    page: &mut [u8; PAGE],
     p: Player,
     s: &'a [u8],
     b: &'a [u8],
@@ -30,18 +34,13 @@ pub fn say_row<'a>(
     material: u16,
     slot: u16,
     row: u16,
-) {
-    say(b"row ");
-    say_count(row as u64);
-    say(b" ");
-    cli_printed::say_name(menu_readings::texture_name(
-        p,
-        s,
-        b,
-        frames,
-        values,
-        slopes,
-        material,
-        slot,
-    ));
+) -> Out {
+    let q = count(o, page, b" row ", b"row", row as u64);
+    cli_printed::name(
+        q,
+        page,
+        b" ",
+        b"texture",
+        menu_readings::texture_name(p, s, b, frames, values, slopes, material, slot),
+    )
 }

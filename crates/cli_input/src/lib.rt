@@ -9,12 +9,14 @@ const LINE_END: u8 = 10;
 
 // The bytes of a piece from `at` to `filled` are unread. `left` bytes may still come: a proved loop has to end, and nothing says that an input does,
 // so it begins with a number that no run uses up, and is 0 once the input has ended. `length` bytes of the line are there; `long` says that it has more.
+// `unread`: the input ended because it can't be read.
 pub struct Input {
     pub at: usize,
     pub filled: usize,
     pub left: u64,
     pub length: usize,
     pub long: bool,
+    pub unread: bool,
 }
 
 pub fn fresh() -> Input
@@ -26,6 +28,7 @@ pub fn fresh() -> Input
         left: u64::MAX,
         length: 0,
         long: false,
+        unread: false,
     }
 }
 
@@ -39,7 +42,12 @@ fn refilled(piece: &mut [u8], i: Input, room: usize) -> Input
     }
     let got = libc::read(STDIN_FILENO, piece);
     let filled = io::count(got, piece);
-    Input { at: 0, filled, ..i }
+    Input {
+        at: 0,
+        filled,
+        unread: got < 0,
+        ..i
+    }
 }
 
 // One byte more of the line, or that there is no room.
@@ -83,4 +91,19 @@ pub fn next_line(piece: &mut [u8], line: &mut [u8], before: Input) -> Input
         i = stored(line, i, piece.len(), b);
     }
     i
+}
+
+// Whether a whole line is there already, so that nothing has to be waited for.
+pub fn has_line(piece: &[u8], at: usize, filled: usize) -> bool {
+    let mut i = at;
+    while i < filled {
+        if i >= piece.len() {
+            return false;
+        }
+        if piece[i] == LINE_END {
+            return true;
+        }
+        i += 1;
+    }
+    false
 }

@@ -1,21 +1,17 @@
--- Laws on texts: what is within a text counts bytes of it, and what was read back is shown. Assumes nothing.
-use Prim.Native.Nat.{ℕ, _≤_}
+-- A law on texts: what was read back is shown. Assumes nothing.
+use Prim.Native.Nat.{ℕ}
 use mathlib.Core.List.{List}
 use mathlib.Core.Path.{_≡_, refl, sym, ap, _∙_}
 use mathlib.Core.Bool.{Bool, true, false, _||_}
-use lib.ListN.{length, take}
+use lib.ListN.{take}
 use lib.Dec.{eqb}
 use lib.Ieee.{Float}
-use lib.Seq.{length-take-le}
 use Rattle.io.specs.Counts.{Counts}
 use Rattle.float.specs.Numbers.{sameBits}
 use Rattle.cli_words.specs.declared.number.Number.{Number}
 use Rattle.cli_words.specs.declared.number.Number.the-variants.{Is}
 use Rattle.cli_words.specs.Numbers.{numberOf}
-use Rattle.cli_printed.specs.Text.{Shown, isBits}
-
-pub counts : (n : ℕ) (xs : List ℕ) → n ≤ length xs → Counts n xs
-counts n xs l = (l, sym (length-take-le n xs l))
+use Rattle.cli_numbers.specs.Text.{Shown, isBits}
 
 either : (a : Bool) {b : Bool} → b ≡ true → (a || b) ≡ true
 either true e = refl

@@ -1,6 +1,8 @@
 // Channels by name, in document 01's order. The names are the variants of targets.rs, and document 01's own words where an enum has no word for it;
 // the program channel_names prints them all, and what it must print is made from targets.rs.
-use crate::text::say;
+use cli_page::Out;
+use cli_page::PAGE;
+use cli_page::word;
 
 // How many channels a pane has, and a material.
 pub const PANE_CHANNELS: usize = 28;
@@ -34,10 +36,10 @@ pub fn material_channel(w: &[u8]) -> usize {
     find(&MATERIAL, MATERIAL_CHANNELS, w)
 }
 
-pub fn say_pane_channel(c: usize) {
-    say(cli_words::word(&PANE, c));
+pub fn name_pane_channel(o: Out, page: &mut [u8; PAGE], c: usize) -> Out {
+    word(o, page, b" ", b"channel", cli_words::word(&PANE, c))
 }
 
-pub fn say_material_channel(c: usize) {
-    say(cli_words::word(&MATERIAL, c));
+pub fn name_material_channel(o: Out, page: &mut [u8; PAGE], c: usize) -> Out {
+    word(o, page, b" ", b"channel", cli_words::word(&MATERIAL, c))
 }

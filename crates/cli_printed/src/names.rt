@@ -1,14 +1,14 @@
 // Names, as a 24-byte field holds them.
-use crate::text::say;
-ghost use Prim.Native.Nat.{_<_, _≤_};
-ghost use lib.ListN.{length};
+use cli_page::Out;
+use cli_page::PAGE;
+ghost use Prim.Native.Nat.{_<_};
 ghost use Rattle.io.specs.Counts.{Counts};
 ghost use Rattle.book.specs.Checked.{CheckedBook};
 ghost use Rattle.book.specs.Sizes.{paneCount, materialCount};
 
 // How many bytes of a name count: zero bytes at its end don't.
 fn counted(name: &[u8]) -> usize
-    ensures { λ r. ⌜ r ≤ length (now (name .entry)) ⌝ }
+    ensures { λ r. ⌜ Counts r (now (name .entry)) ⌝ }
 {
     let mut n = name.len();
     while n > 0 {
@@ -20,44 +20,20 @@ fn counted(name: &[u8]) -> usize
     n
 }
 
-// A byte that would break the line, or the terminal, is shown as a question mark.
-fn plain(b: u8) -> u8 {
-    if (b < 32) | (b == 127) { 63 } else { b }
-}
-
-// The bytes of a name that count, as many as there is room for, which for a 24-byte field is all.
-fn shown(name: &[u8], text: &mut [u8]) -> usize
-    ensures { λ r. ⌜ Counts r (now (text .exit)) ⌝ }
-{
-    let n = counted(name);
-    let mut i = 0;
-    while i < n {
-        if i >= text.len() {
-            return i;
-        }
-        text[i] = plain(name[i]);
-        i += 1;
-    }
-    i
-}
-
 // A name on one line, whatever its bytes are.
-pub fn say_name(name: &[u8]) {
-    let mut text = [0u8; 32];
-    let n = shown(name, &mut text);
-    say(&text[..n]);
+pub fn name(o: Out, page: &mut [u8; PAGE], before: &[u8], key: &[u8], field: &[u8]) -> Out {
+    let n = counted(field);
+    cli_page::bytes(o, page, before, key, &field[..n])
 }
 
-pub fn say_pane(b: &[u8], i: usize)
+pub fn pane(o: Out, page: &mut [u8; PAGE], before: &[u8], b: &[u8], i: usize) -> Out
     requires { ⌜ CheckedBook (now b) × (i < paneCount (now b)) ⌝ }
 {
-    say(b"pane ");
-    say_name(book::pane_label(b, i));
+    name(o, page, before, b"pane", book::pane_label(b, i))
 }
 
-pub fn say_material(b: &[u8], i: usize)
+pub fn material(o: Out, page: &mut [u8; PAGE], before: &[u8], b: &[u8], i: usize) -> Out
     requires { ⌜ CheckedBook (now b) × (i < materialCount (now b)) ⌝ }
 {
-    say(b"material ");
-    say_name(book::material_name(b, i));
+    name(o, page, before, b"material", book::material_name(b, i))
 }

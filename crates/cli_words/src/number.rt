@@ -222,7 +222,7 @@ fn hexadecimal(s: &[u8]) -> u64
 }
 
 // The float of a bit pattern, a NaN's too.
-fn pattern(v: u32) -> f32
+pub fn pattern(v: u32) -> f32
     ensures { λ r. ⌜ r ≡ ofBits binary32 v ⌝ }
 {
     if v % 2147483648 > 2139095040 {

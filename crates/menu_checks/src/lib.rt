@@ -1,6 +1,12 @@
 // The rows of the table that look at what a call takes, whatever it does: 1 the sheet, 2 the book, 3 and 4 the keys, 5 the player. The player's row is asked
 // behind n, what the rows before it declined with, and by the outward function itself, which owns the player: the check then reads it where it is, and it
-// isn't copied.
+// isn't copied. What a sheet and a book hold is counted in `counts`.
+mod counts;
+
+pub use counts::BookCounts;
+pub use counts::SheetCounts;
+pub use counts::book_counts;
+pub use counts::sheet_counts;
 use laws::refusal::ACCEPTED;
 use laws::refusal::BOOK_LAYOUT;
 use laws::refusal::BROKEN_STATE;

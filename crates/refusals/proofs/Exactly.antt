@@ -10,7 +10,7 @@ use lib.ListN.{length}
 use Rattle.laws.specs.Rows.{Hold, holds-then, Fails, declines-then, Decided, none-fails, one-fails, only-then, held}
 use Rattle.machine.specs.Asks.{one, tables, resolvedPane, resolvedLayer, name, cascaded}
 use Rattle.machine.specs.Calls.{Answer, number, editAnswer, ticked, told, written, stepP}
-use Rattle.refusals.specs.Outward.{Outward, made, load, nextName, nextNameOut, textureNameOut, uvs, corners, translate, rotatePoint}
+use Rattle.refusals.specs.Outward.{Outward, made, sheetCounts, bookCounts, load, nextName, nextNameOut, textureNameOut, uvs, corners, translate, rotatePoint}
 use Rattle.refusals.specs.Table.{tableOf, refusalOf}
 use Rattle.refusals.specs.Given.{NameSays, Says, Answers}
 use Rattle.refusals.proofs.Numbers.{answers-the-number}
@@ -48,6 +48,8 @@ says-same (written r) n m = number-same
 
 answers-same : (s : List ℕ) (c : Outward) (n m : ℕ) → Answers s c n → Answers s c m → n ≡ 0 → m ≡ 0
 answers-same s (made c t) n m = says-same (stepP s c t .1) n m
+answers-same s sheetCounts n m = number-same
+answers-same s (bookCounts b) n m = number-same
 answers-same s (load ks) n m = number-same
 answers-same s (nextName a) n m = name-same _ n m
 answers-same s (nextNameOut a o) n m = number-same

@@ -13,7 +13,7 @@ use Rattle.menu_c.specs.Naming.{nextNameInto, textureNameInto}
 use Rattle.machine.specs.Asks.{Ask, paneChannel, materialChannel, all, pane, layer, texture, cascade, askTable, tellIn}
 use Rattle.machine.specs.Calls.{Call, play, pose, tick, edit, undo, redo, openDrag, drag, dropDrag, abandonDrag, ask, save, State, stepP}
 use Rattle.machine.proofs.Ask.{tell-is}
-use Rattle.refusals.specs.Outward.{Outward, made, load, nextName, nextNameOut, textureNameOut, uvs, corners, translate, rotatePoint}
+use Rattle.refusals.specs.Outward.{Outward, made, sheetCounts, bookCounts, load, nextName, nextNameOut, textureNameOut, uvs, corners, translate, rotatePoint}
 use Rattle.refusals.specs.Table.{callTable, tableOf, refusalOf}
 use Rattle.refusals.specs.Given.{lentTo, leftBy, callBefore, callAfter, lentOut, before, after}
 
@@ -47,6 +47,8 @@ call-keeps s (save o) t d = rw (ne-eqb (declines (callTable s (save o) t)) 0 d)
 pub declined-keeps : (s : List ℕ) (c : Outward) → (refusalOf s c ≡ 0 → ⊥) → after s c ≡ before c
 unfolding tableOf loadedOf loadOf writtenBy nextNameInto textureNameInto
 declined-keeps s (made c t) d = call-keeps s c t d
+declined-keeps s sheetCounts d = refl
+declined-keeps s (bookCounts b) d = refl
 declined-keeps s (load ks) d = rw (ne-eqb (refusalOf s (load ks)) 0 d)
 declined-keeps s (nextName a) d = refl
 declined-keeps s (nextNameOut a o) d = rw (ne-eqb (refusalOf s (nextNameOut a o)) 0 d)

@@ -9,13 +9,14 @@ use Rattle.uv.specs.Calls.{uvs-number}
 use Rattle.corner.specs.Refused.{corners-number, corners-zero, translate-number, translate-zero, rotate-number, rotate-zero}
 use Rattle.player.specs.declared.Player.{Player}
 use Rattle.edit.specs.Keys.{Keys}
+use Rattle.menu_checks.specs.Counts.{counted, sheetCountsBy, bookCountsBy, sheetCountsOf, bookCountsOf}
 use Rattle.menu.specs.Calls.{playOf, poseOf, tickOf, editOf, takeOf, openOf, dragOf, dropOf, abandonOf, loadedOf, nextNameOf, writtenBy, saveOf}
 use Rattle.menu_readings.specs.Readings.{oneOf, paneOf, layerOf, tablesOf, cascadedOf, readPaneOf, readMaterialOf, readAllOf, resolvePaneOf, resolveSrtOf, textureNameOf, cascadeOf}
 use Rattle.menu_c.specs.Naming.{nextNameInto, textureNameInto}
 use Rattle.menu_c.specs.Long.{next-long, texture-long}
 use Rattle.machine.specs.Asks.{Ask, paneChannel, materialChannel, all, pane, layer, texture, cascade, askTable, tellOf}
 use Rattle.machine.specs.Calls.{Call, play, pose, tick, edit, undo, redo, openDrag, drag, dropDrag, abandonDrag, ask, save, told, State, stepP}
-use Rattle.refusals.specs.Outward.{Outward, made, load, nextName, nextNameOut, textureNameOut, uvs, corners, translate, rotatePoint}
+use Rattle.refusals.specs.Outward.{Outward, made, sheetCounts, bookCounts, load, nextName, nextNameOut, textureNameOut, uvs, corners, translate, rotatePoint}
 use Rattle.refusals.specs.Table.{callTable, tableOf, refusalOf}
 use Rattle.refusals.specs.Given.{Says, Answers, Alone, AnswersAlone}
 
@@ -47,8 +48,10 @@ call-answers s (ask b q) t = ask-answers s b (t .player) (t .keys) q
 call-answers s (save o) t = refl
 
 pub answers-the-number : (s : List ℕ) (c : Outward) → Answers s c (refusalOf s c)
-unfolding tableOf loadedOf loadOf nextNameOf writtenBy nextNameInto textureNameInto
+unfolding tableOf sheetCountsBy bookCountsBy sheetCountsOf bookCountsOf loadedOf loadOf nextNameOf writtenBy nextNameInto textureNameInto
 answers-the-number s (made c t) = call-answers s c t
+answers-the-number s sheetCounts = refl
+answers-the-number s (bookCounts b) = refl
 answers-the-number s (load ks) = refl
 answers-the-number s (nextName a) = (λ d. rw (ne-eqb (refusalOf s (nextName a)) 0 d), next-long s a)
 answers-the-number s (nextNameOut a o) = refl
@@ -86,8 +89,10 @@ call-alone s (ask b q) t d = ask-alone s b (t .player) (t .keys) q d
 call-alone s (save o) t d = tt
 
 pub declined-alone : (s : List ℕ) (c : Outward) → (refusalOf s c ≡ 0 → ⊥) → AnswersAlone s c
-unfolding tableOf loadedOf nextNameOf
+unfolding tableOf counted sheetCountsBy bookCountsBy sheetCountsOf bookCountsOf loadedOf nextNameOf
 declined-alone s (made c t) d = call-alone s c t d
+declined-alone s sheetCounts d = rw (ne-eqb (refusalOf s sheetCounts) 0 d)
+declined-alone s (bookCounts b) d = rw (ne-eqb (refusalOf s (bookCounts b)) 0 d)
 declined-alone s (load ks) d = refl
 declined-alone s (nextName a) d = rw (ne-eqb (refusalOf s (nextName a)) 0 d)
 declined-alone s (nextNameOut a o) d = tt

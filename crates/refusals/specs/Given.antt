@@ -13,13 +13,14 @@ use Rattle.player.specs.declared.Player.{Player}
 use Rattle.player.specs.declared.Tick.the-variants.{Idle}
 use Rattle.player.specs.Player.{freshPlayer}
 use Rattle.edit.specs.Keys.{Keys}
+use Rattle.menu_checks.specs.Counts.{noSheetCounts, noBookCounts, sheetCountsOf, bookCountsOf}
 use Rattle.menu.specs.Calls.{loadedOf, nextNameOf}
 use Rattle.menu_readings.specs.Readings.{noPane, noLayer}
 use Rattle.field.specs.Name.{nameBytes}
 use Rattle.menu_c.specs.Naming.{nextNameInto, textureNameInto}
 use Rattle.machine.specs.Asks.{Ask, paneChannel, materialChannel, all, pane, layer, texture, cascade, Told, one, tables, resolvedPane, resolvedLayer, name, cascaded}
 use Rattle.machine.specs.Calls.{Call, play, pose, tick, edit, undo, redo, openDrag, drag, dropDrag, abandonDrag, ask, save, Answer, number, editAnswer, ticked, told, written, State, stepP}
-use Rattle.refusals.specs.Outward.{Outward, made, load, nextName, nextNameOut, textureNameOut, uvs, corners, translate, rotatePoint}
+use Rattle.refusals.specs.Outward.{Outward, made, sheetCounts, bookCounts, load, nextName, nextNameOut, textureNameOut, uvs, corners, translate, rotatePoint}
 
 -- ---- the number
 
@@ -42,6 +43,8 @@ Says (written r) n = r .refusal ≡ n
 
 abbrev pub Answers : List ℕ → Outward → ℕ → Type 0
 Answers s (made c t) n = Says (stepP s c t .1) n
+Answers s sheetCounts n = sheetCountsOf s .refusal ≡ n
+Answers s (bookCounts b) n = bookCountsOf b .refusal ≡ n
 Answers s (load ks) n = loadedOf s ks .refusal ≡ n
 Answers s (nextName a) n = NameSays (nextNameOf s a) n
 Answers s (nextNameOut a o) n = nextNameInto s a o .refusal ≡ n
@@ -69,6 +72,8 @@ Alone (written r) = Unit {0}
 -- a load gives a fresh player: there is none before it that could come back
 abbrev pub AnswersAlone : List ℕ → Outward → Type 0
 AnswersAlone s (made c t) = Alone (stepP s c t .1)
+AnswersAlone s sheetCounts = sheetCountsOf s ≡ noSheetCounts (sheetCountsOf s .refusal)
+AnswersAlone s (bookCounts b) = bookCountsOf b ≡ noBookCounts (bookCountsOf b .refusal)
 AnswersAlone s (load ks) = loadedOf s ks .player ≡ freshPlayer
 AnswersAlone s (nextName a) = nextNameOf s a ≡ []
 AnswersAlone s (nextNameOut a o) = Unit {0}
@@ -137,6 +142,8 @@ callAfter (t, written r) = lentWith t (r .out ∷ []) []
 
 abbrev pub before : Outward → Lent
 before (made c t) = callBefore c t
+before sheetCounts = lentOut [] []
+before (bookCounts b) = lentOut [] []
 before (load ks) = lentKeys ks
 before (nextName a) = lentOut [] []
 before (nextNameOut a o) = lentOut (o ∷ []) []
@@ -146,9 +153,11 @@ before (corners c size ox oy r) = lentOut [] []
 before (translate k d) = lentOut [] []
 before (rotatePoint p c r) = lentOut [] []
 
--- names, corners and turned points are answers, and no call changes a player that it doesn't hand back
+-- counts, names, corners and turned points are answers, and no call changes a player that it doesn't hand back
 abbrev pub after : List ℕ → Outward → Lent
 after s (made c t) = callAfter (stepP s c t)
+after s sheetCounts = lentOut [] []
+after s (bookCounts b) = lentOut [] []
 after s (load ks) = lentKeys (loadedOf s ks .keys)
 after s (nextName a) = lentOut [] []
 after s (nextNameOut a o) = lentOut (nextNameInto s a o .out ∷ []) []

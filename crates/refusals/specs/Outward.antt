@@ -1,5 +1,5 @@
--- Every outward call, with all that it takes but the sheet: those of demand 3 with the player and keys that they are made on, loading, names, and
--- UVs and corners (document 01, "What a call declines"). Definitions only.
+-- Every outward call, with all that it takes but the sheet: those of demand 3 with the player and keys that they are made on, counts, loading, names,
+-- and UVs and corners (document 01, "What a call declines"). Definitions only.
 use Prim.Native.Nat.{ℕ}
 use mathlib.Core.List.{List}
 use lib.Ieee.{Float}
@@ -12,6 +12,9 @@ use Rattle.machine.specs.Calls.{Call, State}
 pub data Outward : Type 0 where
   -- play, pose, tick, both edits, undo, redo, a drag's four, the readings and saving
   made : Call → State → Outward
+  -- how much the sheet holds, and a book
+  sheetCounts : Outward
+  bookCounts : List ℕ → Outward
   -- loading into three arrays
   load : Keys → Outward
   -- the name that follows an animation, as a part of the sheet, and copied into an output

@@ -9,11 +9,12 @@ use Rattle.uv.specs.Declined.{uvsTable}
 use Rattle.corner.specs.Declined.{cornersTable, translateTable, rotateTable}
 use Rattle.edit.specs.declared.request.Request.{Request}
 use Rattle.edit.specs.declared.request.Request.the-variants as request
+use Rattle.menu_checks.specs.Counts.{sheetCountsTable, bookCountsTable}
 use Rattle.menu.specs.Rows.{playTable, poseTable, tickTable, editTable, undoTable, redoTable, openTable, dragTable, closeTable, saveTable, nextNameTable}
 use Rattle.menu_c.specs.Naming.{nextNameOutTable, textureNameOutTable}
 use Rattle.machine.specs.Asks.{Ask, paneChannel, materialChannel, all, pane, layer, texture, cascade, askTable}
 use Rattle.machine.specs.Calls.{Call, play, pose, tick, edit, undo, redo, openDrag, drag, dropDrag, abandonDrag, ask, save, State}
-use Rattle.refusals.specs.Outward.{Outward, made, load, nextName, nextNameOut, textureNameOut, uvs, corners, translate, rotatePoint}
+use Rattle.refusals.specs.Outward.{Outward, made, sheetCounts, bookCounts, load, nextName, nextNameOut, textureNameOut, uvs, corners, translate, rotatePoint}
 
 -- of the calls of demand 3
 unfoldable pub callTable : List ℕ → Call → State → List Row
@@ -32,6 +33,8 @@ callTable s (save o) t = saveTable s (t .player) (t .keys) (length o)
 
 unfoldable pub tableOf : List ℕ → Outward → List Row
 tableOf s (made c t) = callTable s c t
+tableOf s sheetCounts = sheetCountsTable s
+tableOf s (bookCounts b) = bookCountsTable b
 tableOf s (load ks) = loadTable s (length (ks .frames)) (length (ks .values)) (length (ks .slopes))
 tableOf s (nextName a) = nextNameTable s a
 tableOf s (nextNameOut a o) = nextNameOutTable s a o
@@ -73,6 +76,8 @@ callNumbers (save o) = 1 ∷ 3 ∷ 4 ∷ 5 ∷ 5 ∷ 14 ∷ []
 
 abbrev pub numbersOf : Outward → List ℕ
 numbersOf (made c t) = callNumbers c
+numbersOf sheetCounts = 1 ∷ []
+numbersOf (bookCounts b) = 2 ∷ []
 numbersOf (load ks) = 1 ∷ 3 ∷ 4 ∷ []
 numbersOf (nextName a) = 1 ∷ 6 ∷ []
 numbersOf (nextNameOut a o) = 1 ∷ 6 ∷ 13 ∷ []

@@ -1,6 +1,7 @@
 //! The value axis of a track's picture: its range and its marks, in the channel's unit.
 
-use crate::rows::Menu;
+use dovebolt::SheetView;
+
 use crate::unit::{Unit, no_such};
 use crate::words;
 
@@ -23,11 +24,11 @@ pub struct Axis {
 
 impl Axis {
     /// The axis on which all of these readings have a place.
-    pub fn new(unit: Unit, menu: &Menu, readings: &[f64]) -> Axis {
+    pub fn new(unit: Unit, sheet: SheetView, readings: &[f64]) -> Axis {
         match unit {
             Unit::Share => Axis::share(readings),
             Unit::Visible => Axis::visible(),
-            Unit::Texture => Axis::textures(menu, readings),
+            Unit::Texture => Axis::textures(sheet, readings),
             Unit::Level => Axis::level(),
             Unit::Degrees => Axis::numbers(unit, "degrees", readings),
             Unit::Times => Axis::numbers(unit, "scale", readings),
@@ -97,11 +98,11 @@ impl Axis {
     }
 
     /// The rows that occur, each as high as the next.
-    fn textures(menu: &Menu, readings: &[f64]) -> Axis {
+    fn textures(sheet: SheetView, readings: &[f64]) -> Axis {
         let mut rows: Vec<u16> = readings.iter().map(|r| *r as u16).collect();
         rows.sort();
         rows.dedup();
-        let words = |row: u16| match menu.textures.get(usize::from(row)) {
+        let words = |row: u16| match sheet.textures().nth(usize::from(row)) {
             Some(name) => format!("row {row}: {name}"),
             None => no_such(row),
         };

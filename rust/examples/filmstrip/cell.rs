@@ -1,9 +1,8 @@
 //! The drawing of one frame: the panes that are shown, with their labels.
 
-use dovebolt::Vector2f;
+use dovebolt::{BookView, Pane, Vector2f};
 
 use crate::rect::{Rect, apart, within};
-use crate::rows::Pane;
 use crate::stage::Shown;
 use crate::{svg, words};
 
@@ -55,7 +54,7 @@ impl View {
         Outline {
             corners: [c.top_left, c.top_right, c.bottom_right, c.bottom_left]
                 .map(|p| self.point(p)),
-            row: s.row,
+            pane: s.pane,
             alpha: f64::from(s.alpha).clamp(0.0, 1.0),
         }
     }
@@ -64,7 +63,7 @@ impl View {
 /// A pane's outline in a cell.
 struct Outline {
     corners: [(f64, f64); 4],
-    row: usize,
+    pane: Pane,
     alpha: f64,
 }
 
@@ -87,8 +86,8 @@ impl Outline {
         format!(
             "<polygon points=\"{}\" fill=\"{}\" fill-opacity=\"{fill}\" stroke=\"{}\" opacity=\"{:.2}\"/>\n",
             points.join(" "),
-            svg::fill(self.row),
-            svg::stroke(self.row),
+            svg::fill(&self.pane),
+            svg::stroke(&self.pane),
             self.alpha
         )
     }
@@ -130,34 +129,35 @@ fn free_place(
 }
 
 /// How strongly a pane is filled.
-fn fill_of(panes: &[Pane], view: &View, outline: &Outline) -> f64 {
+fn fill_of(book: BookView, view: &View, outline: &Outline) -> f64 {
     let (left, top, right, bottom) = outline.rect();
     let wide = (right - left) * (bottom - top) > view.width * view.height * MOST_OF_THE_STAGE;
-    let parent = panes.iter().any(|p| p.parent == Some(outline.row));
+    let mut panes = book.panes();
+    let parent = panes.any(|p| p.parent == Some(outline.pane.number));
     if wide || parent { FAINT } else { PLAIN }
 }
 
 /// The panes of a frame, then their labels. Pane 0 is the stage itself.
-pub fn drawing(view: &View, panes: &[Pane], shown: &[Shown]) -> String {
+pub fn drawing(view: &View, book: BookView, shown: &[Shown]) -> String {
     let outlines: Vec<Outline> = shown
         .iter()
-        .filter(|s| s.row > 0)
+        .filter(|s| s.pane.number > 0)
         .map(|s| view.outline(s))
         .filter(Outline::drawable)
         .collect();
     let mut out: String = outlines
         .iter()
-        .map(|o| o.draw(fill_of(panes, view, o)))
+        .map(|o| o.draw(fill_of(book, view, o)))
         .collect();
     let mut taken = vec![];
     for (n, o) in outlines.iter().enumerate() {
-        let label = &panes[o.row].label;
+        let label = o.pane.label.text();
         if o.alpha < LEAST_LABELLED {
             continue;
         }
-        if let Some(place) = free_place(view, &outlines, n, label, &taken) {
-            let ink = svg::stroke(o.row);
-            out += &svg::text(place.0, place.3 - 2.0, svg::SMALL, &ink, "", label);
+        if let Some(place) = free_place(view, &outlines, n, &label, &taken) {
+            let ink = svg::stroke(&o.pane);
+            out += &svg::text(place.0, place.3 - 2.0, svg::SMALL, &ink, "", &label);
             taken.push(place);
         }
     }

@@ -1,8 +1,8 @@
 //! What a drawing of the panes can't show, in words: materials, corner colours and depths that change.
 
-use dovebolt::{Channels, MaterialChannel, PaneChannel};
+use dovebolt::{BookView, Channel, Channels, MaterialChannel, Name, PaneChannel};
 
-use crate::rows::Menu;
+use crate::menu::Menu;
 use crate::unit::Unit;
 use crate::words;
 
@@ -13,12 +13,11 @@ pub struct Change {
     short: String,
 }
 
-/// A channel that can't be seen in a drawing: its place in a whole reading, whose it is and its name.
-struct Unseen<'a> {
+/// A channel that can't be seen in a drawing: its place in a whole reading, and the name of its pane or material.
+struct Unseen {
     place: usize,
-    owner: &'a str,
-    name: &'static str,
-    unit: Unit,
+    owner: Name,
+    channel: Channel,
 }
 
 /// Textures first and then levels: they say most in a line that is cut.
@@ -30,27 +29,23 @@ fn rank(unit: Unit) -> u8 {
     }
 }
 
-fn unseen(menu: &Menu) -> Vec<Unseen<'_>> {
+fn unseen(book: BookView) -> Vec<Unseen> {
+    let of = |number: u16, owner: Name, channel: Channel| Unseen {
+        place: book.place(number, channel),
+        owner,
+        channel,
+    };
     let mut out = vec![];
-    for (row, owner) in menu.materials.iter().enumerate() {
-        out.extend(MaterialChannel::ALL.map(|c| Unseen {
-            place: c.place(&menu.book, row as u16),
-            owner,
-            name: c.name(),
-            unit: Unit::of_material(c),
-        }));
+    for material in book.materials() {
+        let all = MaterialChannel::ALL.map(Channel::Material);
+        out.extend(all.map(|c| of(material.number, material.name, c)));
     }
-    for (row, pane) in menu.panes.iter().enumerate() {
-        let hidden =
-            |c: &PaneChannel| *c >= PaneChannel::LeftTopRed || *c == PaneChannel::TranslateZ;
-        out.extend(PaneChannel::ALL.into_iter().filter(hidden).map(|c| Unseen {
-            place: c.place(row as u16),
-            owner: &pane.label,
-            name: c.name(),
-            unit: Unit::of_pane(c),
-        }));
+    let hidden = |c: &PaneChannel| *c >= PaneChannel::LeftTopRed || *c == PaneChannel::TranslateZ;
+    for pane in book.panes() {
+        let all = PaneChannel::ALL.into_iter().filter(hidden);
+        out.extend(all.map(|c| of(pane.number, pane.label, Channel::Pane(c))));
     }
-    out.sort_by_key(|u| rank(u.unit));
+    out.sort_by_key(|u| rank(Unit::of(u.channel)));
     out
 }
 
@@ -63,15 +58,15 @@ pub fn changes(menu: &Menu, before: Option<&Channels>, now: &Channels) -> Vec<Ch
     let differs = |u: &Unseen| bits(now, u.place) != before.and_then(|b| bits(b, u.place));
     let change = |u: Unseen| {
         let (exact, short) = match now.get(u.place) {
-            Some(number) => u.unit.words(number, &menu.textures),
+            Some(number) => Unit::of(u.channel).words(number, menu.sheet),
             None => ("no override".to_string(), "no override".to_string()),
         };
         Change {
-            exact: format!("{} {} {exact}", u.owner, u.name),
-            short: format!("{} {} {short}", u.owner, u.name),
+            exact: format!("{} {} {exact}", u.owner, u.channel),
+            short: format!("{} {} {short}", u.owner, u.channel),
         }
     };
-    unseen(menu)
+    unseen(menu.book)
         .into_iter()
         .filter(differs)
         .map(change)

@@ -1,8 +1,9 @@
 //! The keys of a track in its picture: a diamond each, a handle for its slope, and a label with what is stored.
 
+use dovebolt::{Curve, Keys, Track};
+
 use crate::plot::{Plot, dotted};
 use crate::rect::{Rect, apart, holds, within};
-use crate::rows::{Menu, Track};
 use crate::svg;
 use crate::unit::Unit;
 use crate::words::{self, exact};
@@ -19,9 +20,6 @@ const RINGS: usize = 7;
 /// So that a line behind a label doesn't cross it.
 const HALO: &str = " paint-order=\"stroke\" stroke=\"#ffffff\" stroke-width=\"3\"";
 
-pub const CONSTANT: u8 = 0;
-pub const HERMITE: u8 = 2;
-
 pub struct Key {
     pub frame: f32,
     /// What the value reads as by itself.
@@ -33,18 +31,18 @@ pub struct Key {
     stored: String,
 }
 
-pub fn of(menu: &Menu, track: &Track, unit: Unit) -> Vec<Key> {
-    let key = |n: usize| {
-        let k = track.first + n;
-        let (value, slope) = (menu.keys.values[k], menu.keys.slopes[k]);
-        let stored = menu.keys.frames[k];
+pub fn of(keys: &Keys, track: &Track, unit: Unit) -> Vec<Key> {
+    let key = |(n, place): (usize, usize)| {
+        let (value, slope) = (keys.values[place], keys.slopes[place]);
+        let stored = keys.frames[place];
         // A Constant curve's key n is the one of frame n.
-        let frame = if track.curve == CONSTANT {
+        let frame = if track.curve == Curve::Constant {
             n as f32
         } else {
             stored
         };
-        let sloped = track.curve == HERMITE && !matches!(unit, Unit::Visible | Unit::Texture);
+        let sloped =
+            track.curve == Curve::Hermite && !matches!(unit, Unit::Visible | Unit::Texture);
         let factor = if unit == Unit::Share { 255.0 } else { 1.0 };
         Key {
             frame,
@@ -59,7 +57,7 @@ pub fn of(menu: &Menu, track: &Track, unit: Unit) -> Vec<Key> {
             ),
         }
     };
-    (0..track.count).map(key).collect()
+    track.keys().enumerate().map(key).collect()
 }
 
 impl Key {

@@ -3,7 +3,8 @@
 use dovebolt::{Cascaded, Channels, Player, Refusal};
 
 use crate::changes::{self, Change};
-use crate::rows::Menu;
+use crate::common::named;
+use crate::menu::Menu;
 use crate::stage::{self, Shown};
 
 /// A part of the strip.
@@ -31,7 +32,7 @@ struct Moment {
 
 impl Moment {
     fn of(player: &Player, menu: &Menu) -> Result<Moment, Refusal> {
-        let (sheet, book, keys) = (&menu.sheet, &menu.book, &menu.keys);
+        let (sheet, book, keys) = (menu.sheet.bytes(), menu.book.bytes(), &menu.keys);
         Ok(Moment {
             channels: player.read_all(sheet, book, keys)?,
             cascade: player.cascade(sheet, book, keys)?,
@@ -62,12 +63,10 @@ pub fn parts(player: &mut Player, menu: &Menu) -> Result<Vec<Part>, String> {
     let mut parts = vec![];
     let mut before: Option<Moment> = None;
     for frame in 0..usize::from(menu.animation.frames.max(1)) {
-        let at = |failure: String| format!("frame {frame}: {failure}");
-        let declined = |refusal: Refusal| at(refusal.to_string());
-        player
-            .pose(&menu.sheet, Some(menu.number), frame as f32)
-            .map_err(declined)?;
-        let now = Moment::of(player, menu).map_err(declined)?;
+        let name = format!("frame {frame}");
+        let (sheet, number) = (menu.sheet.bytes(), menu.animation.number);
+        named(&name, player.pose(sheet, Some(number), frame as f32))?;
+        let now = named(&name, Moment::of(player, menu))?;
         if before.as_ref().is_some_and(|b| now.same(b)) {
             match parts.last_mut() {
                 Some(Part::Still { last, .. }) => *last = frame,
@@ -81,7 +80,7 @@ pub fn parts(player: &mut Player, menu: &Menu) -> Result<Vec<Part>, String> {
         let channels_before = before.as_ref().map(|b| &b.channels);
         parts.push(Part::Drawn(Drawn {
             frame,
-            shown: stage::shown(player, menu).map_err(at)?,
+            shown: named(&name, stage::shown(player, menu))?,
             changes: changes::changes(menu, channels_before, &now.channels),
         }));
         before = Some(now);

@@ -1,12 +1,15 @@
 //! Where each pane is while the player shows a frame.
 
-use dovebolt::{Corners, Player, Refusal, Transform, Vector2f, Vector3f, corners, rotate_point};
+use dovebolt::{
+    Corners, Pane, Player, Refusal, Transform, Vector2f, Vector3f, corners, rotate_point,
+};
 
-use crate::rows::{Menu, Pane};
+use crate::common::named;
+use crate::menu::Menu;
 
-/// A pane that is shown: its row, its corners on a stage whose y goes down, and its alpha under its parents.
+/// A pane that is shown, with its corners on a stage whose y goes down and its alpha under its parents.
 pub struct Shown {
-    pub row: usize,
+    pub pane: Pane,
     pub corners: Corners,
     pub alpha: f32,
 }
@@ -56,30 +59,31 @@ fn corners_of(pane: &Pane, own: &Transform, here: &Placed) -> Result<Corners, Re
     corners(
         here.center,
         size,
-        pane.horizontal,
-        pane.vertical,
+        pane.horizontal.number(),
+        pane.vertical.number(),
         here.rotation,
     )
 }
 
 /// The panes that are shown, parents first. A failure names its pane: numbers and angles can be too large to be placed.
 pub fn shown(player: &Player, menu: &Menu) -> Result<Vec<Shown>, String> {
-    let (sheet, book, keys) = (&menu.sheet, &menu.book, &menu.keys);
+    let (sheet, book, keys) = (menu.sheet.bytes(), menu.book.bytes(), &menu.keys);
     let cascade = player
         .cascade(sheet, book, keys)
         .map_err(|refusal| refusal.to_string())?;
     let mut all: Vec<Placed> = vec![];
     let mut shown = vec![];
-    for (row, pane) in menu.panes.iter().enumerate() {
-        let at = |refusal: Refusal| format!("pane {row}: {refusal}");
-        let resolved = player.resolve_pane(sheet, book, keys, row as u16);
-        let own = resolved.map_err(at)?.transform;
-        let here = placed(&own, pane.parent.map_or(&ROOT, |p| &all[p])).map_err(at)?;
-        if cascade[row].visible {
+    for (pane, cascaded) in menu.book.panes().zip(cascade) {
+        let name = format!("pane {}", pane.number);
+        let resolved = player.resolve_pane(sheet, book, keys, pane.number);
+        let own = named(&name, resolved)?.transform;
+        let parent = pane.parent.map_or(&ROOT, |p| &all[usize::from(p)]);
+        let here = named(&name, placed(&own, parent))?;
+        if cascaded.visible {
             shown.push(Shown {
-                row,
-                corners: corners_of(pane, &own, &here).map_err(at)?,
-                alpha: cascade[row].alpha,
+                pane,
+                corners: named(&name, corners_of(&pane, &own, &here))?,
+                alpha: cascaded.alpha,
             });
         }
         all.push(here);

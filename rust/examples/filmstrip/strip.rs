@@ -2,11 +2,11 @@
 
 use std::fmt::Write;
 
-use dovebolt::Player;
+use dovebolt::{Animation, BookView, Player};
 
 use crate::cell::{View, drawing};
+use crate::menu::Menu;
 use crate::moments::{Drawn, Part, parts};
-use crate::rows::{Animation, Menu, Pane};
 use crate::svg::{self, About, MARGIN, WIDTH};
 use crate::{changes, words};
 
@@ -67,13 +67,13 @@ fn frame(x: f64, y: f64, width: f64, height: f64, more: &str) -> String {
 }
 
 /// A frame's cell at (x, y), its number and its changes. What lies outside the stage is cut off.
-fn cell(view: &View, panes: &[Pane], drawn: &Drawn, placed: &Placed, y: f64) -> String {
+fn cell(view: &View, book: BookView, drawn: &Drawn, placed: &Placed, y: f64) -> String {
     let (x, width, height) = (placed.x, view.width, view.height);
     let mut out = format!(
         "<svg x=\"{x:.1}\" y=\"{y:.1}\" width=\"{width:.1}\" height=\"{height:.1}\">\
          <rect width=\"100%\" height=\"100%\" fill=\"{}\"/>\n{}</svg>\n{}",
         svg::CELL,
-        drawing(view, panes, &drawn.shown),
+        drawing(view, book, &drawn.shown),
         frame(x, y, width, height, "")
     );
     let caption = format!("frame {}", drawn.frame);
@@ -111,32 +111,34 @@ fn still(view: &View, first: usize, last: usize, x: f64, y: f64) -> String {
     out + "</g>\n"
 }
 
-fn legend(panes: &[Pane], y: f64) -> (String, f64) {
+fn legend(book: BookView, y: f64) -> (String, f64) {
     let column = (WIDTH - MARGIN * 2.0) / LEGEND_COLUMNS as f64;
     let mut out = String::new();
-    for (n, (row, pane)) in panes.iter().enumerate().skip(1).enumerate() {
+    for (n, pane) in book.panes().skip(1).enumerate() {
         let x = MARGIN + (n % LEGEND_COLUMNS) as f64 * column;
         let y = y + (n / LEGEND_COLUMNS) as f64 * LEGEND_ROW;
         let _ = writeln!(
             out,
             "<rect x=\"{x:.1}\" y=\"{y:.1}\" width=\"12\" height=\"12\" rx=\"2\" fill=\"{}\" stroke=\"{}\"/>",
-            svg::fill(row),
-            svg::stroke(row)
+            svg::fill(&pane),
+            svg::stroke(&pane)
         );
-        let label = words::cut(&pane.label, svg::MIDDLE, column - 24.0);
+        let label = words::cut(&pane.label.text(), svg::MIDDLE, column - 24.0);
         out += &svg::text(x + 18.0, y + 10.5, svg::MIDDLE, svg::INK, "", &label);
     }
-    let rows = (panes.len() - 1).div_ceil(LEGEND_COLUMNS);
+    let rows = (book.panes().len() - 1).div_ceil(LEGEND_COLUMNS);
     (out, y + rows as f64 * LEGEND_ROW)
 }
 
 /// How long the animation is, what comes after it, and which frames are left out.
 fn summary(animation: &Animation, drawn: usize) -> String {
     let count = usize::from(animation.frames.max(1));
-    let end = match (animation.looping, animation.next.as_str()) {
+    // A name may be present and empty.
+    let next = animation.next.filter(|name| !name.is_empty());
+    let end = match (animation.looping, next) {
         (true, _) => "loops".to_string(),
-        (false, "") => "plays once".to_string(),
-        (false, next) => format!("plays once, then {next}"),
+        (false, None) => "plays once".to_string(),
+        (false, Some(next)) => format!("plays once, then {next}"),
     };
     let left_out = match count - drawn {
         0 => String::new(),
@@ -151,9 +153,10 @@ fn summary(animation: &Animation, drawn: usize) -> String {
 pub fn filmstrip(player: &mut Player, menu: &Menu) -> Result<String, String> {
     let parts = parts(player, menu)?;
     let cells = parts.iter().filter(|p| matches!(p, Part::Drawn(_))).count();
+    let sheet = menu.sheet.bytes();
     let size = player
-        .pose(&menu.sheet, Some(menu.number), 0.0)
-        .and_then(|()| player.resolve_pane(&menu.sheet, &menu.book, &menu.keys, 0))
+        .pose(sheet, Some(menu.animation.number), 0.0)
+        .and_then(|()| player.resolve_pane(sheet, menu.book.bytes(), &menu.keys, 0))
         .map_err(|refusal| refusal.to_string())?
         .transform
         .size;
@@ -165,14 +168,14 @@ pub fn filmstrip(player: &mut Player, menu: &Menu) -> Result<String, String> {
     for row in rows(&parts, view.width) {
         for placed in &row {
             body += &match placed.part {
-                Part::Drawn(drawn) => cell(&view, &menu.panes, drawn, placed, y),
+                Part::Drawn(drawn) => cell(&view, menu.book, drawn, placed, y),
                 Part::Still { first, last } => still(&view, *first, *last, placed.x, y),
             };
         }
         let lines = row.iter().map(|p| p.lines.len()).max().unwrap_or(0);
         y += view.height + STEP * (lines + 1) as f64 + GAP;
     }
-    let (legend, below) = legend(&menu.panes, y + 4.0);
+    let (legend, below) = legend(menu.book, y + 4.0);
     let about = About {
         title: format!("{}: the frames as a strip", menu.title()),
         description: format!(

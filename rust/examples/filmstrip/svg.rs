@@ -1,5 +1,7 @@
 //! Text of SVG, and the colours of both kinds of picture.
 
+use dovebolt::Pane;
+
 use crate::words;
 
 /// As wide as a README is shown, so that a letter comes out at the size that is written here.
@@ -25,16 +27,16 @@ pub const QUIET: &str = "#5f5c56";
 const HUES: [u16; 12] = [210, 265, 30, 165, 330, 95, 12, 190, 290, 48, 235, 350];
 
 /// A hue for each pane.
-fn hue(row: usize) -> u16 {
-    HUES[(row + HUES.len() - 1) % HUES.len()]
+fn hue(pane: &Pane) -> u16 {
+    HUES[(usize::from(pane.number) + HUES.len() - 1) % HUES.len()]
 }
 
-pub fn fill(row: usize) -> String {
-    format!("hsl({},58%,74%)", hue(row))
+pub fn fill(pane: &Pane) -> String {
+    format!("hsl({},58%,74%)", hue(pane))
 }
 
-pub fn stroke(row: usize) -> String {
-    format!("hsl({},46%,30%)", hue(row))
+pub fn stroke(pane: &Pane) -> String {
+    format!("hsl({},46%,30%)", hue(pane))
 }
 
 /// A character that XML doesn't allow, or that can't be seen, becomes one that stands for it.

@@ -1,12 +1,11 @@
 //! The picture of one track: its channel as it reads, and the track's keys.
 
-use dovebolt::{Player, Reading, Refusal};
+use dovebolt::{Channel, Curve, Player, Reading, Refusal, Track};
 
 use crate::axis::Axis;
-use crate::channel::{Channel, Place};
-use crate::keys::{self, CONSTANT, HERMITE, Key};
+use crate::keys::{self, Key};
+use crate::menu::Menu;
 use crate::plot::{self, Plot, quiet};
-use crate::rows::{Menu, Track};
 use crate::svg::{self, About};
 use crate::unit::Unit;
 use crate::words;
@@ -15,19 +14,21 @@ use crate::words;
 const SAMPLES: f64 = 16.0;
 const MOST_SAMPLES: f64 = 480.0;
 const MOST_TOLD: usize = 20;
-const CURVES: [&str; 3] = ["Constant", "Step", "Hermite"];
+
+/// The number of a pane or a material, and one of its channels.
+type Place = (u16, Channel);
 
 fn read(
     player: &mut Player,
     menu: &Menu,
-    channel: &Channel,
+    (number, channel): Place,
     frame: f32,
 ) -> Result<Reading, Refusal> {
-    let (sheet, book, keys) = (&menu.sheet, &menu.book, &menu.keys);
-    player.pose(sheet, Some(menu.number), frame)?;
-    match channel.place {
-        Place::Pane(row, channel) => player.read_pane(sheet, book, keys, row, channel),
-        Place::Material(row, channel) => player.read_material(sheet, book, keys, row, channel),
+    let (sheet, book, keys) = (menu.sheet.bytes(), menu.book.bytes(), &menu.keys);
+    player.pose(sheet, Some(menu.animation.number), frame)?;
+    match channel {
+        Channel::Pane(channel) => player.read_pane(sheet, book, keys, number, channel),
+        Channel::Material(channel) => player.read_material(sheet, book, keys, number, channel),
     }
 }
 
@@ -56,7 +57,7 @@ fn ends(menu: &Menu, keys: &[Key]) -> (f64, f64) {
 fn samples(
     player: &mut Player,
     menu: &Menu,
-    channel: &Channel,
+    place: Place,
     (first, last): (f64, f64),
     keys: &[Key],
 ) -> Result<Vec<(f32, Option<f64>)>, Refusal> {
@@ -69,14 +70,14 @@ fn samples(
     frames.dedup();
     let mut out = vec![];
     for frame in frames {
-        let reading = read(player, menu, channel, frame)?;
+        let reading = read(player, menu, place, frame)?;
         out.push((frame, number_of(reading)));
     }
     Ok(out)
 }
 
 /// The pane's or material's name and the channel's; of the two, the first is cut.
-fn heading(name: &str, channel: &str) -> String {
+fn heading(name: &str, channel: Channel) -> String {
     let channel = format!(" · {channel}");
     let room = svg::HEADING_ROOM - words::width(&channel, svg::HEADING);
     words::cut(name, svg::HEADING, room) + &channel
@@ -94,17 +95,17 @@ fn about(menu: &Menu, track: &Track, counts: &Track, keys: &[Key], gaps: bool) -
     } else {
         ""
     };
-    let frame = if track.curve == CONSTANT {
+    let frame = if track.curve == Curve::Constant {
         "the frame from which it holds"
     } else {
         "its frame"
     };
     let plural = if keys.len() == 1 { "" } else { "s" };
     format!(
-        "{}, track {}: {}, {} key{plural}. {line}{gaps}. A label is a key's stored value at {frame}.",
+        "{}, track {}: {:?}, {} key{plural}. {line}{gaps}. A label is a key's stored value at {frame}.",
         menu.title(),
         track.number,
-        CURVES[usize::from(track.curve)],
+        track.curve,
         keys.len(),
     )
 }
@@ -131,23 +132,24 @@ pub fn picture(
     player: &mut Player,
     menu: &Menu,
     track: &Track,
-    channel: &Channel,
+    place: Place,
     counts: &Track,
 ) -> Result<String, Refusal> {
-    let unit = Unit::of(&channel.place);
-    let keys = keys::of(menu, track, unit);
+    let (_, channel) = place;
+    let unit = Unit::of(channel);
+    let keys = keys::of(&menu.keys, track, unit);
     let ends = ends(menu, &keys);
-    let turns = keys::of(menu, counts, unit);
-    let samples = samples(player, menu, channel, ends, &turns)?;
+    let turns = keys::of(&menu.keys, counts, unit);
+    let samples = samples(player, menu, place, ends, &turns)?;
     let drawn = samples.iter().filter_map(|s| s.1);
     let readings: Vec<f64> = keys.iter().map(|k| k.reading).chain(drawn).collect();
     let gaps = samples.iter().any(|s| s.1.is_none());
 
-    let title = format!("{} · {}", track.name, channel.name());
+    let title = format!("{} · {channel}", track.name);
     let about = about(menu, track, counts, &keys, gaps);
-    let (mut body, below) = svg::heading(&heading(&track.name, channel.name()), &about);
-    let plot = Plot::new(below + 34.0, ends, Axis::new(unit, menu, &readings));
-    let stretches = plot.stretches(&samples, unit.whole() || counts.curve != HERMITE);
+    let (mut body, below) = svg::heading(&heading(&track.name.text(), channel), &about);
+    let plot = Plot::new(below + 34.0, ends, Axis::new(unit, menu.sheet, &readings));
+    let stretches = plot.stretches(&samples, unit.whole() || counts.curve != Curve::Hermite);
     let (marks, without) = keys::draw(&plot, &keys, &stretches);
     body += &(plot.axes() + &plot::line(&stretches) + &marks);
     if without > 0 {

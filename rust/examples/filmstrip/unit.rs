@@ -1,8 +1,7 @@
 //! A channel's unit: what a stored value reads as, and the words for a reading.
 
-use dovebolt::{MaterialChannel, PaneChannel};
+use dovebolt::{Channel, MaterialChannel, PaneChannel, SheetView};
 
-use crate::channel::Place;
 use crate::words;
 
 #[derive(Clone, Copy, PartialEq)]
@@ -22,14 +21,14 @@ pub enum Unit {
 }
 
 impl Unit {
-    pub fn of(place: &Place) -> Unit {
-        match place {
-            Place::Pane(_, channel) => Unit::of_pane(*channel),
-            Place::Material(_, channel) => Unit::of_material(*channel),
+    pub fn of(channel: Channel) -> Unit {
+        match channel {
+            Channel::Pane(channel) => Unit::of_pane(channel),
+            Channel::Material(channel) => Unit::of_material(channel),
         }
     }
 
-    pub fn of_pane(channel: PaneChannel) -> Unit {
+    fn of_pane(channel: PaneChannel) -> Unit {
         use PaneChannel::*;
         match channel {
             TranslateX | TranslateY | TranslateZ | SizeX | SizeY => Unit::Plain,
@@ -40,7 +39,7 @@ impl Unit {
         }
     }
 
-    pub fn of_material(channel: MaterialChannel) -> Unit {
+    fn of_material(channel: MaterialChannel) -> Unit {
         use MaterialChannel::*;
         match channel {
             Texture0 | Texture1 | Texture2 => Unit::Texture,
@@ -79,13 +78,14 @@ impl Unit {
     }
 
     /// A number of a whole reading in words; the second is short.
-    pub fn words(self, number: f32, textures: &[String]) -> (String, String) {
+    pub fn words(self, number: f32, sheet: SheetView) -> (String, String) {
         let one = match self {
             Unit::Visible if number != 0.0 => "shown".to_string(),
             Unit::Visible => "hidden".to_string(),
-            Unit::Texture => textures
-                .get(number as usize)
-                .map_or(no_such(number as u16), String::clone),
+            Unit::Texture => {
+                let name = sheet.textures().nth(number as usize);
+                name.map_or(no_such(number as u16), |name| name.to_string())
+            }
             _ => {
                 let exact = self.with_sign(&words::exact(number));
                 return (exact, self.with_sign(&words::short(number)));

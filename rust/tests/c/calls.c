@@ -15,6 +15,8 @@ static int failed = 0;
         }                                                        \
     } while (0)
 
+_Static_assert(sizeof(menu_counted_sheet) == 12, "menu_counted_sheet");
+_Static_assert(sizeof(menu_counted_book) == 8, "menu_counted_book");
 _Static_assert(sizeof(menu_journal) == 3584, "menu_journal");
 _Static_assert(sizeof(menu_drag_state) == 20, "menu_drag_state");
 _Static_assert(sizeof(menu_player) == 3664, "menu_player");
@@ -27,6 +29,15 @@ _Static_assert(sizeof(menu_resolved_srt) == 24, "menu_resolved_srt");
 _Static_assert(sizeof(menu_placed) == 36, "menu_placed");
 _Static_assert(sizeof(menu_turned) == 12, "menu_turned");
 
+_Static_assert(offsetof(menu_counted_sheet, refusal) == 0, "menu_counted_sheet");
+_Static_assert(offsetof(menu_counted_sheet, animations) == 2, "menu_counted_sheet");
+_Static_assert(offsetof(menu_counted_sheet, contents) == 4, "menu_counted_sheet");
+_Static_assert(offsetof(menu_counted_sheet, tracks) == 6, "menu_counted_sheet");
+_Static_assert(offsetof(menu_counted_sheet, keys) == 8, "menu_counted_sheet");
+_Static_assert(offsetof(menu_counted_sheet, textures) == 10, "menu_counted_sheet");
+_Static_assert(offsetof(menu_counted_book, refusal) == 0 && offsetof(menu_counted_book, panes) == 2, "menu_counted_book");
+_Static_assert(offsetof(menu_counted_book, materials) == 4, "menu_counted_book");
+_Static_assert(offsetof(menu_counted_book, channels) == 6, "menu_counted_book");
 _Static_assert(offsetof(menu_player, selection) == 0 && offsetof(menu_player, playing) == 2, "menu_player");
 _Static_assert(offsetof(menu_player, preview) == 3 && offsetof(menu_player, frame) == 4, "menu_player");
 _Static_assert(offsetof(menu_player, reach) == 8 && offsetof(menu_player, redo) == 16, "menu_player");
@@ -60,6 +71,20 @@ static size_t read_file(const char *name, uint8_t *out, size_t most) {
     size_t n = fread(out, 1, most, file);
     fclose(file);
     return n;
+}
+
+/* Cut by a byte, sheet and book are declined, and nothing is counted. */
+static void counts(void) {
+    menu_counted_sheet s = menu_sheet_counts(sheet, sheet_len);
+    CHECK(s.refusal == MENU_OK && s.animations == 2 && s.contents == 4);
+    CHECK(s.tracks == 5 && s.keys == KEYS && s.textures == 2);
+    s = menu_sheet_counts(sheet, sheet_len - 1);
+    CHECK(s.refusal == MENU_SHEET && s.animations == 0 && s.contents == 0);
+    CHECK(s.tracks == 0 && s.keys == 0 && s.textures == 0);
+    menu_counted_book b = menu_book_counts(book, book_len);
+    CHECK(b.refusal == MENU_OK && b.panes == PANES && b.materials == 1 && b.channels == CHANNELS);
+    b = menu_book_counts(book, book_len - 1);
+    CHECK(b.refusal == MENU_BOOK && b.panes == 0 && b.materials == 0 && b.channels == 0);
 }
 
 static menu_player playing(void) {
@@ -315,6 +340,7 @@ int main(int count, char **arguments) {
     }
     sheet_len = read_file(arguments[1], sheet, sizeof sheet);
     book_len = read_file(arguments[2], book, sizeof book);
+    counts();
     menu_player player = playing();
     readings(player);
     editing(player);

@@ -34,8 +34,8 @@ slice-read-b c = search needs
 add-stored : tie.Need-add-stored Inv-loop μ-loop
 add-stored c = search needs
 
-sub-t20 : tie.Need-sub-t20 Inv-loop μ-loop
-sub-t20 c = search needs
+sub-t22 : tie.Need-sub-t22 Inv-loop μ-loop
+sub-t22 c = search needs
 
 same-length-3 : tie.Need-same-length-3 Inv-loop μ-loop
 same-length-3 c = search needs
@@ -77,7 +77,7 @@ next-line-spec =
     returns
     slice-read-b
     add-stored
-    sub-t20
+    sub-t22
     same-length-3
     same-length-4
     returns-2

@@ -9,10 +9,10 @@ use Rattle.cli_command.proofs.arguments.join.Statement.{statement}
 use Rattle.cli_command.proofs.arguments.join.Tie as tie
 
 abbrev Inv-loop : tie.InvT-loop
-Inv-loop out₀ count at₀ i₀ out at i = (at ≤ length out) × (length out ≡ length out₀)
+Inv-loop out₀ first count at₀ i₀ out at i = (at ≤ length out) × (length out ≡ length out₀)
 
 abbrev μ-loop : tie.MeasureT-loop
-μ-loop out₀ count at₀ i₀ out at i = count - i
+μ-loop out₀ first count at₀ i₀ out at i = count - i
 
 arg-count-requires : tie.Need-arg-count-requires Inv-loop μ-loop
 arg-count-requires c κs = search needs

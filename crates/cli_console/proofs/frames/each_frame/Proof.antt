@@ -1,14 +1,18 @@
--- `each_frame` stays inside its slices and its loop ends.
-use Prim.Native.Nat.{_-_}
+-- `each_frame` shows each frame once and ends.
+use Prim.Native.Nat.{_-_, _≤_}
 use borrow.Author.Needs.{needs}
 use Rattle.cli_console.proofs.frames.each_frame.Statement.{statement}
 use Rattle.cli_console.proofs.frames.each_frame.Tie as tie
 
 abbrev Inv-loop : tie.InvT-loop
-Inv-loop p s b frames values slopes animation quiet end f₀ done₀ t13 f done = Unit {0}
+Inv-loop page₀ p s b frames values slopes animation from end total q₀ f₀ done₀ t16 page q f done =
+    0 ≤ f
 
 abbrev μ-loop : tie.MeasureT-loop
-μ-loop p s b frames values slopes animation quiet end f₀ done₀ t13 f done = end - f
+μ-loop page₀ p s b frames values slopes animation from end total q₀ f₀ done₀ t16 page q f done = end - f
+
+wrapping-sub-u64-requires : tie.Need-wrapping-sub-u64-requires Inv-loop μ-loop
+wrapping-sub-u64-requires c κs = search needs
 
 loop-holds : tie.Need-loop-holds Inv-loop μ-loop
 loop-holds c = search needs
@@ -34,6 +38,9 @@ loop-less c = search needs
 loop-again : tie.Need-loop-again Inv-loop μ-loop
 loop-again c = search needs
 
+progress-end-requires : tie.Need-progress-end-requires Inv-loop μ-loop
+progress-end-requires c κs = search needs
+
 returns : tie.Need-returns Inv-loop μ-loop
 returns c = search needs
 
@@ -43,6 +50,7 @@ each-frame-spec =
     (tie.spec
     Inv-loop
     μ-loop
+    wrapping-sub-u64-requires
     loop-holds
     frame-requires
     add-f
@@ -51,4 +59,5 @@ each-frame-spec =
     progress-requires
     loop-less
     loop-again
+    progress-end-requires
     returns)

@@ -1,8 +1,8 @@
--- `with_bytes` stays inside its slices.
-use borrow.Author.Needs.{needs}
+-- `with_bytes` goes on with a checked sheet and a checked book.
 use Rattle.laws.specs.Tests.{yes}
 use Rattle.sheet.specs.Checked.{checked}
 use Rattle.book.specs.Checked.{checked-book}
+use borrow.Author.Needs.{needs}
 use Rattle.cli_console.proofs.open.with_bytes.Statement.{statement}
 use Rattle.cli_console.proofs.open.with_bytes.Tie as tie
 
@@ -40,12 +40,7 @@ slice-aggregate-with-room-3 : tie.Need-slice-aggregate-with-room-3
 slice-aggregate-with-room-3 c = search needs
 
 with-room-requires : tie.Need-with-room-requires
-with-room-requires c κs =
-    let at-if2 = c .before .before .before in
-    let at-book-ok = at-if2 .before in
-    let at-if1 = at-book-ok .before in
-    let at-sheet-ok = at-if1 .before in
-    ((checked _ (yes (at-sheet-ok .sheet-ok .ensures) (at-if1 .if1 .left)), checked-book _ (yes (at-book-ok .book-ok .ensures) (at-if2 .if2 .left))), search needs)
+with-room-requires c κs = let n = c .before .before .before .before in ((checked _ (yes (n .before .before .before .sheet-ok .ensures) (n .before .before .if1 .left)), checked-book _ (yes (n .before .book-ok .ensures) (n .if2 .left))), search needs)
 
 returns-3 : tie.Need-returns-3
 returns-3 c = search needs

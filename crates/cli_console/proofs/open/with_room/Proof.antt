@@ -1,8 +1,8 @@
--- `with_room` stays inside its slices. Key arrays as long as the sheet has keys.
-use mathlib.Core.Path.{sym}
+-- `with_room` lends arrays as long as the sheet has keys.
 use native.Mathlib.Omega.{arith}
-use borrow.Author.Needs.{needs}
+use mathlib.Core.Path.{sym}
 use lib.Seq.{length-take-le}
+use borrow.Author.Needs.{needs}
 use Rattle.cli_console.proofs.open.with_room.Statement.{statement}
 use Rattle.cli_console.proofs.open.with_room.Tie as tie
 

@@ -1,8 +1,8 @@
--- `say_cascade_in` stays inside its slices. The same with room for the outputs.
-use mathlib.Core.Path.{sym}
+-- `say_cascade_in` lends outputs as long as the book has panes.
 use native.Mathlib.Omega.{arith}
-use borrow.Author.Needs.{needs}
+use mathlib.Core.Path.{sym}
 use lib.Seq.{length-take-le}
+use borrow.Author.Needs.{needs}
 use Rattle.cli_facts.proofs.cascade.say_cascade_in.Statement.{statement}
 use Rattle.cli_facts.proofs.cascade.say_cascade_in.Tie as tie
 
@@ -30,17 +30,17 @@ slice-aggregate-cascade-3 c = sym (length-take-le _ _ (omega arith))
 cascade-requires : tie.Need-cascade-requires
 cascade-requires c κs = search needs
 
-say-lead-requires : tie.Need-say-lead-requires
-say-lead-requires c κs = search needs
+begin-requires : tie.Need-begin-requires
+begin-requires c κs = search needs
 
-say-refusal-requires : tie.Need-say-refusal-requires
-say-refusal-requires c κs = search needs
+slice-aggregate-refusal : tie.Need-slice-aggregate-refusal
+slice-aggregate-refusal c = search needs
 
-slice-aggregate-say : tie.Need-slice-aggregate-say
-slice-aggregate-say c = search needs
+refusal-requires : tie.Need-refusal-requires
+refusal-requires c κs = search needs
 
-say-requires : tie.Need-say-requires
-say-requires c κs = search needs
+end-requires : tie.Need-end-requires
+end-requires c κs = search needs
 
 same-length : tie.Need-same-length
 same-length c = search needs
@@ -81,10 +81,10 @@ say-cascade-in-spec =
     slice-relend-prefix-cascade-3
     slice-aggregate-cascade-3
     cascade-requires
-    say-lead-requires
-    say-refusal-requires
-    slice-aggregate-say
-    say-requires
+    begin-requires
+    slice-aggregate-refusal
+    refusal-requires
+    end-requires
     same-length
     same-length-2
     same-length-3

@@ -1,14 +1,14 @@
--- `say_states` stays inside its slices and its loop ends.
-use Prim.Native.Nat.{_-_}
+-- `say_states` tells each pane once and ends.
+use Prim.Native.Nat.{_-_, _≤_}
 use borrow.Author.Needs.{needs}
 use Rattle.cli_facts.proofs.cascade.say_states.Statement.{statement}
 use Rattle.cli_facts.proofs.cascade.say_states.Tie as tie
 
 abbrev Inv-loop : tie.InvT-loop
-Inv-loop lead b visible alpha n i₀ i = Unit {0}
+Inv-loop page₀ lead b visible alpha n p₀ i₀ page p i = i ≤ n
 
 abbrev μ-loop : tie.MeasureT-loop
-μ-loop lead b visible alpha n i₀ i = n - i
+μ-loop page₀ lead b visible alpha n p₀ i₀ page p i = n - i
 
 pane-count-requires : tie.Need-pane-count-requires Inv-loop μ-loop
 pane-count-requires c κs = search needs

@@ -1,14 +1,14 @@
--- `say_materials` stays inside its slices and its loop ends.
-use Prim.Native.Nat.{_-_}
+-- `say_materials` tells each material once and ends.
+use Prim.Native.Nat.{_-_, _≤_}
 use borrow.Author.Needs.{needs}
 use Rattle.cli_facts.proofs.readings.say_materials.Statement.{statement}
 use Rattle.cli_facts.proofs.readings.say_materials.Tie as tie
 
 abbrev Inv-loop : tie.InvT-loop
-Inv-loop lead p s b frames values slopes marks numbers n i₀ i = Unit {0}
+Inv-loop page₀ lead p s b frames values slopes marks numbers n q₀ i₀ page q i = i ≤ n
 
 abbrev μ-loop : tie.MeasureT-loop
-μ-loop lead p s b frames values slopes marks numbers n i₀ i = n - i
+μ-loop page₀ lead p s b frames values slopes marks numbers n q₀ i₀ page q i = n - i
 
 material-count-requires : tie.Need-material-count-requires Inv-loop μ-loop
 material-count-requires c κs = search needs

@@ -1,14 +1,14 @@
--- `say_panes` stays inside its slices and its loop ends.
-use Prim.Native.Nat.{_-_}
+-- `say_panes` tells each pane once and ends.
+use Prim.Native.Nat.{_-_, _≤_}
 use borrow.Author.Needs.{needs}
 use Rattle.cli_facts.proofs.readings.say_panes.Statement.{statement}
 use Rattle.cli_facts.proofs.readings.say_panes.Tie as tie
 
 abbrev Inv-loop : tie.InvT-loop
-Inv-loop lead b marks numbers n i₀ i = Unit {0}
+Inv-loop page₀ lead b marks numbers n p₀ i₀ page p i = i ≤ n
 
 abbrev μ-loop : tie.MeasureT-loop
-μ-loop lead b marks numbers n i₀ i = n - i
+μ-loop page₀ lead b marks numbers n p₀ i₀ page p i = n - i
 
 pane-count-requires : tie.Need-pane-count-requires Inv-loop μ-loop
 pane-count-requires c κs = search needs

@@ -1,4 +1,4 @@
--- `skip` keeps to the bounds that it promises: the first index from at on where a gap begins, or where gaps end, or the length; its loop ends.
+-- `skip` keeps to its bounds and ends.
 use Prim.Native.Nat.{_-_, _≤_}
 use borrow.Author.Needs.{needs}
 use lib.ListN.{length}
@@ -6,10 +6,10 @@ use Rattle.cli_words.proofs.part.skip.Statement.{statement}
 use Rattle.cli_words.proofs.part.skip.Tie as tie
 
 abbrev Inv-loop : tie.InvT-loop
-Inv-loop s at lines gaps i₀ i = (at ≤ i) × (i ≤ length s)
+Inv-loop s at gaps i₀ i = (at ≤ i) × (i ≤ length s)
 
 abbrev μ-loop : tie.MeasureT-loop
-μ-loop s at lines gaps i₀ i = length s - i
+μ-loop s at gaps i₀ i = length s - i
 
 loop-holds : tie.Need-loop-holds Inv-loop μ-loop
 loop-holds c = search needs

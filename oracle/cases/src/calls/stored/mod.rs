@@ -3,18 +3,21 @@
 //! published text's and the plain machine's, which `Walk` holds against each
 //! other after each call.
 
+mod lines;
 #[cfg(test)]
 mod tests;
 
 use super::held::Held;
 use super::player::{Drag, ROWS};
 use super::some::{self, Mode};
+use super::text::Line;
 use super::walk::{Step, Walk};
 use super::{Call, Request, Told, text};
 use crate::format::book::Book;
 use crate::format::sheet::{Sheet, Target};
 use crate::random::Random;
 use crate::readings::whole::PANE_CHANNELS;
+use lines::Lines;
 
 /// Lists of random calls, and the steps of each.
 const LISTS: u64 = 12;
@@ -34,9 +37,11 @@ const EVERY: usize = 16;
 pub struct List {
     pub sheet: Vec<u8>,
     pub book: Vec<u8>,
-    pub calls: String,
+    pub calls: Lines,
     pub answers: Vec<u8>,
     walk: Walk,
+    /// How lines are written; it takes no number from those that draw the calls.
+    forms: Random,
     moves: usize,
     /// As it is before the next call.
     drag: Drag,
@@ -48,13 +53,14 @@ pub fn lists(seed: u64) -> impl Iterator<Item = List> {
 }
 
 impl List {
-    fn new(walk: Walk) -> Self {
+    fn new(seed: u64, walk: Walk, calls: Lines) -> Self {
         Self {
             sheet: walk.held.sheet_bytes.clone(),
             book: walk.held.book.bytes.clone(),
-            calls: String::new(),
+            calls,
             answers: Vec::new(),
             walk: walk.without_spoils(),
+            forms: Random::new(seed).beside(),
             moves: 0,
             drag: Drag::default(),
         }
@@ -72,9 +78,15 @@ impl List {
         let Step::Called(call, answer) = step else {
             panic!("{step:?} is no call");
         };
-        if let Some(line) = text::line(call) {
-            let told = text::answer(call, answer, &self.walk.held, &self.drag);
-            self.write(&line, told);
+        let held = &self.walk.held;
+        if let Some(words) = text::words(call, held, &mut self.forms) {
+            let number = self.calls.write(&words, &mut self.forms);
+            let line = Line {
+                number,
+                words: &words,
+            };
+            let told = text::answer(&line, call, answer, held, &self.drag);
+            self.answers.extend(told);
         }
         self.drag = self.walk.held.player.drag;
         let refusal = answer.refusal;
@@ -101,14 +113,24 @@ impl List {
         self.call(Call::Save { short: 0 });
     }
 
-    fn ask(&mut self, verb: &str, answer: fn(&Held) -> Vec<u8>) {
-        self.write(verb, answer(&self.walk.held));
+    fn ask(&mut self, words: &str, answer: fn(&Line, &Held) -> Vec<u8>) {
+        let number = self.calls.write(words, &mut self.forms);
+        let told = answer(&Line { number, words }, &self.walk.held);
+        self.answers.extend(told);
     }
 
-    fn write(&mut self, line: &str, answer: Vec<u8>) {
-        self.calls.push_str(line);
-        self.calls.push('\n');
-        self.answers.extend(answer);
+    /// Edits and an opening while nothing is active, which random lists seldom meet.
+    fn edit_nothing(&mut self) {
+        let (track, key) = (0, 0);
+        let [frame, value] = [0.0, 0.0];
+        for request in [Request::Key { frame, value }, Request::Slope(value)] {
+            self.call(Call::Edit {
+                track,
+                key,
+                request,
+            });
+        }
+        self.call(Call::OpenDrag { track, key });
     }
 
     /// Of each key of a curve, an edit is made and undone, and the key opened and
@@ -185,7 +207,8 @@ fn channels(sheet: &Sheet, book: &Book) -> [usize; 2] {
 fn random_list(seed: u64) -> List {
     let mut random = Random::new(seed);
     let (sheet, book) = menu(&mut random);
-    let mut list = List::new(Walk::new(random, &sheet, &book, STEPS));
+    let walk = Walk::new(random, &sheet, &book, STEPS);
+    let mut list = List::new(seed, walk, Lines::default());
     while let Some(step) = list.walk.step() {
         list.keep(&step);
     }
@@ -193,17 +216,20 @@ fn random_list(seed: u64) -> List {
     list.finish()
 }
 
-/// Keys that are dropped where they are; more edits than a journal holds; undo until it
-/// is declined, and what stands then is saved; redo until it is, and a drag over the
-/// full journal; a few undone again, and an edit, after which nothing can be made again.
+/// Edits of nothing; keys that are dropped where they are; more edits than a journal
+/// holds; undo until it is declined, and what stands then is saved; redo until it is,
+/// and a drag over the full journal; a few undone again, and an edit, after which
+/// nothing can be made again. Its text begins with a byte order mark.
 fn long_list(seed: u64) -> List {
     let mut random = Random::new(seed);
     let (sheet, book) = menu(&mut random);
-    let mut list = List::new(Walk::new(Random::new(0), &sheet, &book, 0));
+    let walk = Walk::new(Random::new(0), &sheet, &book, 0);
+    let mut list = List::new(seed, walk, Lines::marked());
     let mut draw = |list: &mut List, mode: Mode| {
         let call = some::call(&mut random, &list.walk.held, mode);
         list.call(call)
     };
+    list.edit_nothing();
     list.drop_each_key();
     while list.walk.held.player.standing < MANY {
         draw(&mut list, Mode::Edits);

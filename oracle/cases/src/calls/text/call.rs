@@ -1,12 +1,15 @@
-//! A call's line.
+//! A call's words.
 
-use super::channel;
+use super::good;
 use super::number::argument;
+use super::word::Words;
+use crate::calls::held::Held;
 use crate::calls::{Call, NONE, Request};
+use crate::random::Random;
 
-/// A call's line; nothing for one that lends an output of another length, which
-/// no line can say.
-pub fn line(call: &Call) -> Option<String> {
+/// A call's words, parted by one space; nothing for one that lends an output of
+/// another length, which no line can say.
+pub fn words(call: &Call, held: &Held, random: &mut Random) -> Option<String> {
     Some(match *call {
         Call::Play(animation) => format!("play {}", selection(animation)),
         Call::Pose(animation, frame) => {
@@ -24,20 +27,35 @@ pub fn line(call: &Call) -> Option<String> {
         Call::Drag { frame, value } => format!("drag {} {}", argument(frame), argument(value)),
         Call::DropDrag => "drop".to_string(),
         Call::AbandonDrag => "abandon".to_string(),
-        Call::ReadPane { pane, channel } => {
-            format!("read pane {pane} {}", channel::of_pane(channel))
-        }
-        Call::ReadMaterial { material, channel } => {
-            format!("read material {material} {}", channel::of_material(channel))
-        }
-        Call::ReadAll { short: 0 } => "read all".to_string(),
-        Call::ResolvePane(pane) => format!("resolve pane {pane}"),
-        Call::ResolveSrt { material, layer } => format!("resolve srt {material} {layer}"),
-        Call::TextureName { material, slot } => format!("name {material} {slot}"),
-        Call::Cascade { short: 0 } => "cascade".to_string(),
         Call::NextName(animation) => format!("next {animation}"),
         Call::Save { short: 0 } => "save".to_string(),
-        Call::ReadAll { .. } | Call::Cascade { .. } | Call::Save { .. } => return None,
+        Call::Save { .. } => return None,
+        _ => {
+            let book = good(held);
+            return reading(call, &mut Words { book, random });
+        }
+    })
+}
+
+/// The words of a reading.
+fn reading(call: &Call, word: &mut Words) -> Option<String> {
+    Some(match *call {
+        Call::ReadPane { pane, channel } => {
+            let (pane, channel) = (word.pane(pane), word.pane_channel(channel));
+            format!("read pane {pane} {channel}")
+        }
+        Call::ReadMaterial { material, channel } => {
+            let (material, channel) = (word.material(material), word.material_channel(channel));
+            format!("read material {material} {channel}")
+        }
+        Call::ReadAll { short: 0 } => "read all".to_string(),
+        Call::ResolvePane(pane) => format!("resolve pane {}", word.pane(pane)),
+        Call::ResolveSrt { material, layer } => {
+            format!("resolve srt {} {layer}", word.material(material))
+        }
+        Call::TextureName { material, slot } => format!("name {} {slot}", word.material(material)),
+        Call::Cascade { short: 0 } => "cascade".to_string(),
+        _ => return None,
     })
 }
 

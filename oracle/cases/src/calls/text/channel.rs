@@ -1,16 +1,13 @@
-//! Channels by name; one that there is not by its number.
+//! Channels by name, where there is one of that number.
 
 use crate::channel_names;
 
-fn named(names: &[String], channel: u16) -> String {
-    let name = names.get(usize::from(channel)).cloned();
-    name.unwrap_or_else(|| channel.to_string())
+pub fn of_pane(channel: u16) -> Option<String> {
+    channel_names::of_panes().into_iter().nth(channel.into())
 }
 
-pub fn of_pane(channel: u16) -> String {
-    named(&channel_names::of_panes(), channel)
-}
-
-pub fn of_material(channel: u16) -> String {
-    named(&channel_names::of_materials(), channel)
+pub fn of_material(channel: u16) -> Option<String> {
+    channel_names::of_materials()
+        .into_iter()
+        .nth(channel.into())
 }

@@ -1,0 +1,2 @@
+-- A law, which proofs of crates above cite.
+pub mod Within
