@@ -97,9 +97,9 @@ fn say_panes(o: Out, page: &mut [u8; PAGE], b: &[u8]) -> Out
     p
 }
 
-// The texture of a slot, where it has a name.
+// The texture of a slot; in text only where it has a name.
 fn say_texture(o: Out, page: &mut [u8; PAGE], before: &[u8], key: &[u8], name: &[u8]) -> Out {
-    if cli_words::same(name, &NO_NAME) {
+    if !o.json & cli_words::same(name, &NO_NAME) {
         return o;
     }
     cli_printed::name(o, page, before, key, name)
@@ -114,9 +114,12 @@ fn say_material(o: Out, page: &mut [u8; PAGE], b: &[u8], i: usize) -> Out
     let third = book::material_texture(b, i, 2);
     let p = count(begin(o, page), page, b"material ", b"material", i as u64);
     let q = cli_printed::name(p, page, b" ", b"name", name);
-    let r = cli_printed::name(q, page, b" textures ", b"texture_0", first);
-    let t = cli_printed::name(r, page, b", ", b"texture_1", second);
-    end(cli_printed::name(t, page, b", ", b"texture_2", third), page)
+    let r = say_texture(q, page, b" texture_0 ", b"texture_0", first);
+    let t = say_texture(r, page, b" texture_1 ", b"texture_1", second);
+    end(
+        say_texture(t, page, b" texture_2 ", b"texture_2", third),
+        page,
+    )
 }
 
 fn say_materials(o: Out, page: &mut [u8; PAGE], b: &[u8]) -> Out
