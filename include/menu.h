@@ -380,6 +380,19 @@ uint8_t menu_cascade(menu_player player, const uint8_t *sheet, size_t sheet_len,
                      const float *slopes, size_t slopes_len, uint8_t *visible, size_t visible_len, float *alpha,
                      size_t alpha_len, float *influence, size_t influence_len);
 
+/* ---- what differing keys reach */
+
+/* Of two sets of keys for one sheet, before and after some edits, marks what can read differently while the animation is
+ * active. `channels`, as long and in the order of a whole reading: 1 where the track that decides the channel has a key
+ * whose bits differ, else 0. `panes`, as long as the book has panes: 1 where a channel of the pane's own is marked, 2 where
+ * its visibility or alpha under its parents follows a parent's that is, 3 where both, else 0. What is marked 0 reads the
+ * same at every frame. Refusals 1 to 4, 6, 13; 3 and 4 look at both sets. */
+uint8_t menu_reach(const uint8_t *sheet, size_t sheet_len, const uint8_t *book, size_t book_len, const float *frames,
+                   size_t frames_len, const float *values, size_t values_len, const float *slopes, size_t slopes_len,
+                   const float *new_frames, size_t new_frames_len, const float *new_values, size_t new_values_len,
+                   const float *new_slopes, size_t new_slopes_len, uint16_t animation, uint8_t *channels,
+                   size_t channels_len, uint8_t *panes, size_t panes_len);
+
 /* ---- texture coordinates and corners */
 
 /* Layers are 8 numbers each (u and v of top left, top right, bottom left, bottom right), SRTs 5 each (translate u, v,

@@ -43,6 +43,9 @@
 //! # Ok::<(), dovebolt::Refusal>(())
 //! ```
 //!
+//! Which channels and panes an edit reaches is told by [`touched`]; everything that it doesn't mark is proved to read the same
+//! before the edit and after it, at every frame.
+//!
 //! Sheets and books are written by builders, which check what they are given and name the row that breaks a rule, and read
 //! row by row by views, which are made only of what the proved code accepts.
 //!
@@ -75,6 +78,7 @@ mod formats;
 mod keys;
 mod player;
 pub mod raw;
+mod reach;
 mod readings;
 mod refusal;
 mod shapes;
@@ -94,6 +98,7 @@ pub use formats::{
 pub use keys::{Key, Keys};
 pub use player::Player;
 pub use raw::{Corners, Vector2f, Vector3f};
+pub use reach::{PaneTouched, Touched, touched, touched_into};
 pub use refusal::Refusal;
 pub use shapes::{Uvs, corners, rotate_point, translate, uvs, uvs_into};
 pub use view::{

@@ -57,8 +57,8 @@ refusals! {
         open, an undo (redo) with an entry to take whose key isn't, bit for bit, as the entry left (found) it, or \
         whose return would break the key rules.";
     Animation = 6, "no such animation, or nothing is active",
-        "Play or next name from A up, the number of the sheet's animations; edit or opening of a drag with nothing \
-        active.";
+        "Play, next name or what is touched from A up, the number of the sheet's animations; edit or opening of a drag \
+        with nothing active.";
     NoSuch = 7, "no such track in the active animation, key, channel, pane, material, layer or origin",
         "Track not in the active animation, or no such key, channel, pane, material, layer, slot or origin.";
     NotFinite = 8, "a number is not finite, or UV layers or SRTs are not whole entries",

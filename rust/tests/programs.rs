@@ -1,5 +1,7 @@
 //! The example programs, run on the example menu; `pictures` looks at what `filmstrip` draws, of the sample menu too.
 
+#[path = "common/markup.rs"]
+mod markup;
 mod pictures;
 
 use std::path::{Path, PathBuf};

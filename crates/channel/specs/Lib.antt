@@ -5,3 +5,4 @@ pub mod Slot
 pub mod Within
 pub mod Held
 pub mod Place
+pub mod Animation

@@ -14,7 +14,7 @@ use Rattle.edit.specs.Keys.{Keys, keyAt, putKey, sameKey, Within, HeldKe
 use Rattle.edit.specs.Edit.{place, edited, unchanged}
 
 -- two keys of f32 that are the same bit for bit are equal
-same-key-equal : (a b : Key) → HeldKey a → HeldKey b → sameKey a b ≡ true → a ≡ b
+pub same-key-equal : (a b : Key) → HeldKey a → HeldKey b → sameKey a b ≡ true → a ≡ b
 unfolding sameKey
 same-key-equal a b h k e =
     let t = both (sameBits (a .frame) (b .frame) && sameBits (a .value) (b .value)) (sameBits (a .slope) (b .slope)) e in
@@ -27,7 +27,7 @@ same-key-equal a b h k e =
     by-numbers : {f g v w m n : Float} → f ≡ g → v ≡ w → m ≡ n → _≡_ {A = Key} (record { frame = f; value = v; slope = m }) (record { frame = g; value = w; slope = n })
     by-numbers p q r = rw (p, q, r)
 
-at-held : (ks : Keys) (i : ℕ) → HeldKeys ks → HeldKey (keyAt ks i)
+pub at-held : (ks : Keys) (i : ℕ) → HeldKeys ks → HeldKey (keyAt ks i)
 unfolding keyAt
 at-held ks i h = record { frame = h .frames i; value = h .values i; slope = h .slopes i }
 

@@ -21,4 +21,5 @@ pub mod Theorem
 pub mod Unchanged
 pub mod Stays
 pub mod Saved
+pub mod Reach
 pub mod Known

@@ -3,6 +3,7 @@ pub mod Runs
 pub mod Asks
 pub mod Calls
 pub mod Plain
+pub mod Moved
 pub mod Small
 pub mod Computed
 pub mod Poses

@@ -6,6 +6,7 @@ mod dragging;
 mod editing;
 mod naming;
 mod playing;
+mod reaching;
 mod readings;
 mod shapes;
 

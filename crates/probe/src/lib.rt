@@ -1,6 +1,7 @@
 // Inner functions, exported so that a program can compare them with the Rust on millions of inputs. No part of the player.
 // An export requires nothing: it tests what the function inside requires, and answers 0 where a test fails. It is proved safe and to end, no more: what it
 // answers is compared, and the function inside has a contract of its own.
+mod apart;
 mod formats;
 mod readings;
 

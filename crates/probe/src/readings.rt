@@ -10,7 +10,7 @@ ghost use Rattle.reading.specs.Plan.{Planned};
 ghost use Rattle.probe.specs.Readable.{CanReadAll};
 
 // Rows 1, 2 and 4 of the table decline nothing.
-fn ready(s: &[u8], b: &[u8], frames: &[f32], values: &[f32], slopes: &[f32]) -> bool
+pub fn ready(s: &[u8], b: &[u8], frames: &[f32], values: &[f32], slopes: &[f32]) -> bool
     ensures { λ r. ⌜ (r ≡ true → Ready (now (s .entry)) (now (b .entry)) (now (frames .entry)) (now (values .entry)) (now (slopes .entry))) ⌝ }
 {
     sheet::sheet_ok(s) & book::book_ok(b) & keys::keys_ok(s, frames, values, slopes)

@@ -14,15 +14,16 @@ use Rattle.sheet.specs.Rows.{targetRow}
 use Rattle.sheet.specs.declared.rows.Target.{Target}
 use Rattle.book.specs.Checked.{CheckedBook}
 use Rattle.channel.specs.Channel.{familyOf, channelCount, targetChannel}
+use Rattle.channel.specs.Animation.{other-animation}
 use Rattle.channel.specs.Within.{target-within}
 use Rattle.channel.specs.declared.Family.{Family}
 use Rattle.reading.specs.Reading.{valueAt, value16At, readAs, rowReading, targetReading, lastTarget, readingOf, reading, markOf, numberOf, marksOf, numbersOf, noMark, noNumber}
 use Rattle.reading.specs.Ready.{Ready, ReadyRow, ready-row}
 use Rattle.reading.specs.Plan.{noChannel, channelNumber, Run, Numbered}
+use Rattle.reading.specs.Numbers.{number-fits, number-none, number-at}
 use Rattle.reading.specs.declared.Active.the-variants as active
 use Rattle.reading.specs.declared.Reading.{Reading}
 use Rattle.reading.specs.declared.plan.Plan.{Plan}
-use Rattle.reading.proofs.Planning.{other-animation, number-fits, number-none, number-at}
 
 -- ---- one target
 

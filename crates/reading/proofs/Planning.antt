@@ -1,31 +1,30 @@
 -- What a plan tells: the run that two searches give, and the numbers of its channels. Assumes nothing.
 use Prim.Native.Nat.{ℕ, _+_, _*_, _<_, _≤_}
-use mathlib.Core.Bool.{Bool, true, false, cond}
+use mathlib.Core.Bool.{Bool, true, false}
 use mathlib.Core.List.{List}
 use mathlib.Core.Path.{_≡_, refl, sym, _∙_, ap}
 use native.Mathlib.Omega.{arith}
-use borrow.Author.Tests.{ltb-true, ltb-false, ne-eqb}
+use borrow.Author.Tests.{ltb-true, ltb-false}
 use mathlib.Core.Logic.{⊎-elim}
 use native.Mathlib.Nat.{eq-or-lt-of-le, le-of-suc-le-suc}
-use lib.Dec.{eqb, ltb}
+use lib.Dec.{ltb}
 use lib.ListN.{length, getD, set, length-set}
 use lib.Seq.{getD-set-same, getD-set-other}
 use Rattle.laws.specs.Parted.{Parted, Climbs}
 use Rattle.laws.specs.declared.Found.{Found}
-use Rattle.laws.specs.declared.Found.the-variants as found
 use Rattle.sheet.specs.Sizes.{animationCount, contentCount, targetCount, targetBytes, targetsAt}
-use Rattle.sheet.specs.Rows.{contentRow, targetAt, targetRow}
+use Rattle.sheet.specs.Rows.{targetAt, targetRow}
 use Rattle.sheet.specs.declared.rows.Target.{Target}
 use Rattle.sheet.specs.Checked.{Checked, target-content, target-climbs, content-climbs, content-animation}
 use Rattle.book.specs.Checked.{CheckedBook}
-use Rattle.channel.specs.Channel.{channelCount, contentReach, activeReach, address, rowChannel, targetChannel}
+use Rattle.channel.specs.Channel.{rowChannel, targetChannel}
+use Rattle.channel.specs.Animation.{targetAnimation}
 use Rattle.channel.specs.Held.{heldFor, Holds, holds-for}
-use Rattle.channel.specs.Within.{ReachedIn, active-in, target-within}
+use Rattle.channel.specs.Within.{ReachedIn, active-in}
 use Rattle.channel.specs.declared.reach.Held.{Held}
-use Rattle.channel.specs.declared.Reached.{Reached}
-use Rattle.channel.specs.declared.Reached.the-variants as reached
 use Rattle.reading.specs.declared.plan.Plan.{Plan}
-use Rattle.reading.specs.Plan.{targetAnimation, noChannel, channelNumber, Run, Numbered, Planned}
+use Rattle.reading.specs.Plan.{noChannel, channelNumber, Run, Numbered}
+use Rattle.reading.specs.Numbers.{number-fits}
 
 -- ---- the run
 
@@ -59,39 +58,6 @@ run-between s {a} {from} {to} p q =
 
     ordered : from ≤ to
     ordered = go (ltb to from) refl
-
--- ---- the channels
-
--- a target of another animation addresses nothing
-pub other-animation : (s b : List ℕ) (a t : ℕ) → (targetAnimation s t ≡ a → ⊥) → targetChannel s b a t ≡ found.Nothing
-unfolding targetChannel rowChannel activeReach targetAnimation address
-other-animation s b a t h = rw (ne-eqb (contentRow s (targetRow s t .content) .animation) a h, either (ltb (targetRow s t .content) (contentCount s)))
-  where
-    either : (q : Bool) → cond q reached.Nothing reached.Nothing ≡ reached.Nothing
-    either true = refl
-    either false = refl
-
--- a channel's number is below that of none
-pub number-fits : (s b : List ℕ) (a t : ℕ) → CheckedBook b → channelNumber (targetChannel s b a t) ≤ noChannel
-unfolding channelCount
-number-fits s b a t w = go (targetChannel s b a t) refl
-  where
-    go : (o : Found) → targetChannel s b a t ≡ o → channelNumber o ≤ noChannel
-    go (found.At c) e = omega (arith, target-within s b a t c e)
-    go found.Nothing e = omega arith
-
--- so the number tells the channel
-pub number-none : (s b : List ℕ) (a t : ℕ) → CheckedBook b → channelNumber (targetChannel s b a t) ≡ noChannel → targetChannel s b a t ≡ found.Nothing
-unfolding channelCount
-number-none s b a t w q = go (targetChannel s b a t) refl q
-  where
-    go : (o : Found) → targetChannel s b a t ≡ o → channelNumber o ≡ noChannel → targetChannel s b a t ≡ found.Nothing
-    go (found.At c) e k = absurd (omega (arith, target-within s b a t c e))
-    go found.Nothing e k = e
-
-pub number-at : (o : Found) → (channelNumber o ≡ noChannel → ⊥) → o ≡ found.At (channelNumber o)
-number-at (found.At c) k = refl
-number-at found.Nothing k = absurd (k refl)
 
 -- ---- the pass that numbers them
 

@@ -4,3 +4,5 @@ pub mod Overrides
 pub mod LastTarget
 pub mod Ready
 pub mod Plan
+pub mod Numbers
+pub mod Untouched

@@ -7,13 +7,9 @@ use lib.ListN.{length, getD}
 use Rattle.laws.specs.declared.Found.{Found}
 use Rattle.laws.specs.declared.Found.the-variants as found
 use Rattle.sheet.specs.Sizes.{targetCount}
-use Rattle.sheet.specs.Rows.{contentRow, targetRow}
 use Rattle.channel.specs.Channel.{targetChannel}
+use Rattle.channel.specs.Animation.{targetAnimation}
 use Rattle.reading.specs.declared.plan.Plan.{Plan}
-
--- the animation that target t belongs to, by its content
-unfoldable pub targetAnimation : List ℕ → ℕ → ℕ
-targetAnimation s t = contentRow s (targetRow s t .content) .animation
 
 -- a channel as a number, and the number of none
 abbrev pub noChannel : ℕ

@@ -13,7 +13,8 @@ ghost use Rattle.sheet.specs.Sizes.{targetCount};
 ghost use Rattle.sheet.specs.Checked.{Checked};
 ghost use Rattle.book.specs.Checked.{CheckedBook};
 ghost use Rattle.channel.specs.Held.{Searched};
-ghost use Rattle.reading.specs.Plan.{targetAnimation, noChannel, channelNumber, Run, Numbered, Planned};
+ghost use Rattle.channel.specs.Animation.{targetAnimation};
+ghost use Rattle.reading.specs.Plan.{noChannel, channelNumber, Run, Numbered, Planned};
 
 // How many targets a sheet has at most: a plan's channels are lent as so many numbers.
 pub const MOST_TARGETS: usize = 256;

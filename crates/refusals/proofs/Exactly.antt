@@ -10,7 +10,7 @@ use lib.ListN.{length}
 use Rattle.laws.specs.Rows.{Hold, holds-then, Fails, declines-then, Decided, none-fails, one-fails, only-then, held}
 use Rattle.machine.specs.Asks.{one, tables, resolvedPane, resolvedLayer, name, cascaded}
 use Rattle.machine.specs.Calls.{Answer, number, editAnswer, ticked, told, written, stepP}
-use Rattle.refusals.specs.Outward.{Outward, made, sheetCounts, bookCounts, load, nextName, nextNameOut, textureNameOut, uvs, corners, translate, rotatePoint}
+use Rattle.refusals.specs.Outward.{Outward, made, sheetCounts, bookCounts, load, nextName, nextNameOut, textureNameOut, reach, uvs, corners, translate, rotatePoint}
 use Rattle.refusals.specs.Table.{tableOf, refusalOf}
 use Rattle.refusals.specs.Given.{NameSays, Says, Answers}
 use Rattle.refusals.proofs.Numbers.{answers-the-number}
@@ -54,6 +54,7 @@ answers-same s (load ks) n m = number-same
 answers-same s (nextName a) n m = name-same _ n m
 answers-same s (nextNameOut a o) n m = number-same
 answers-same s (textureNameOut b k slot t o) n m = number-same
+answers-same s (reach b ks ls a channels panes) n m = number-same
 answers-same s (uvs ls ss o) n m = number-same
 answers-same s (corners c size ox oy r) n m = number-same
 answers-same s (translate k d) n m = number-same

@@ -9,11 +9,12 @@ use Rattle.uv.specs.Calls.{Filling, uvs-keeps}
 use Rattle.player.specs.Parts.{View, viewOf}
 use Rattle.menu.specs.Calls.{playOf, poseOf, tickOf, editOf, takeOf, openOf, dragOf, dropOf, abandonOf, loadedOf, writtenBy, saveOf}
 use Rattle.menu_readings.specs.Readings.{tablesOf, cascadedOf}
+use Rattle.reach.specs.Calls.{reachOf}
 use Rattle.menu_c.specs.Naming.{nextNameInto, textureNameInto}
 use Rattle.machine.specs.Asks.{Ask, paneChannel, materialChannel, all, pane, layer, texture, cascade, askTable, tellIn}
 use Rattle.machine.specs.Calls.{Call, play, pose, tick, edit, undo, redo, openDrag, drag, dropDrag, abandonDrag, ask, save, State, stepP}
 use Rattle.machine.proofs.Ask.{tell-is}
-use Rattle.refusals.specs.Outward.{Outward, made, sheetCounts, bookCounts, load, nextName, nextNameOut, textureNameOut, uvs, corners, translate, rotatePoint}
+use Rattle.refusals.specs.Outward.{Outward, made, sheetCounts, bookCounts, load, nextName, nextNameOut, textureNameOut, reach, uvs, corners, translate, rotatePoint}
 use Rattle.refusals.specs.Table.{callTable, tableOf, refusalOf}
 use Rattle.refusals.specs.Given.{lentTo, leftBy, callBefore, callAfter, lentOut, before, after}
 
@@ -45,7 +46,7 @@ call-keeps s (ask b q) t d =
 call-keeps s (save o) t d = rw (ne-eqb (declines (callTable s (save o) t)) 0 d)
 
 pub declined-keeps : (s : List ℕ) (c : Outward) → (refusalOf s c ≡ 0 → ⊥) → after s c ≡ before c
-unfolding tableOf loadedOf loadOf writtenBy nextNameInto textureNameInto
+unfolding tableOf loadedOf loadOf writtenBy nextNameInto textureNameInto reachOf
 declined-keeps s (made c t) d = call-keeps s c t d
 declined-keeps s sheetCounts d = refl
 declined-keeps s (bookCounts b) d = refl
@@ -53,6 +54,7 @@ declined-keeps s (load ks) d = rw (ne-eqb (refusalOf s (load ks)) 0 d)
 declined-keeps s (nextName a) d = refl
 declined-keeps s (nextNameOut a o) d = rw (ne-eqb (refusalOf s (nextNameOut a o)) 0 d)
 declined-keeps s (textureNameOut b m slot t o) d = rw (ne-eqb (refusalOf s (textureNameOut b m slot t o)) 0 d)
+declined-keeps s (reach b ks ls a channels panes) d = rw (ne-eqb (refusalOf s (reach b ks ls a channels panes)) 0 d)
 declined-keeps s (uvs ls ss o) d = ap (λ (g : Filling). lentOut [] (g .out ∷ [])) (uvs-keeps ls ss o d)
 declined-keeps s (corners c size ox oy r) d = refl
 declined-keeps s (translate k d′) d = refl

@@ -12,11 +12,12 @@ use Rattle.edit.specs.Keys.{Keys}
 use Rattle.menu_checks.specs.Counts.{counted, sheetCountsBy, bookCountsBy, sheetCountsOf, bookCountsOf}
 use Rattle.menu.specs.Calls.{playOf, poseOf, tickOf, editOf, takeOf, openOf, dragOf, dropOf, abandonOf, loadedOf, nextNameOf, writtenBy, saveOf}
 use Rattle.menu_readings.specs.Readings.{oneOf, paneOf, layerOf, tablesOf, cascadedOf, readPaneOf, readMaterialOf, readAllOf, resolvePaneOf, resolveSrtOf, textureNameOf, cascadeOf}
+use Rattle.reach.specs.Calls.{reachOf}
 use Rattle.menu_c.specs.Naming.{nextNameInto, textureNameInto}
 use Rattle.menu_c.specs.Long.{next-long, texture-long}
 use Rattle.machine.specs.Asks.{Ask, paneChannel, materialChannel, all, pane, layer, texture, cascade, askTable, tellOf}
 use Rattle.machine.specs.Calls.{Call, play, pose, tick, edit, undo, redo, openDrag, drag, dropDrag, abandonDrag, ask, save, told, State, stepP}
-use Rattle.refusals.specs.Outward.{Outward, made, sheetCounts, bookCounts, load, nextName, nextNameOut, textureNameOut, uvs, corners, translate, rotatePoint}
+use Rattle.refusals.specs.Outward.{Outward, made, sheetCounts, bookCounts, load, nextName, nextNameOut, textureNameOut, reach, uvs, corners, translate, rotatePoint}
 use Rattle.refusals.specs.Table.{callTable, tableOf, refusalOf}
 use Rattle.refusals.specs.Given.{Says, Answers, Alone, AnswersAlone}
 
@@ -48,7 +49,7 @@ call-answers s (ask b q) t = ask-answers s b (t .player) (t .keys) q
 call-answers s (save o) t = refl
 
 pub answers-the-number : (s : List ℕ) (c : Outward) → Answers s c (refusalOf s c)
-unfolding tableOf sheetCountsBy bookCountsBy sheetCountsOf bookCountsOf loadedOf loadOf nextNameOf writtenBy nextNameInto textureNameInto
+unfolding tableOf sheetCountsBy bookCountsBy sheetCountsOf bookCountsOf loadedOf loadOf nextNameOf writtenBy nextNameInto textureNameInto reachOf
 answers-the-number s (made c t) = call-answers s c t
 answers-the-number s sheetCounts = refl
 answers-the-number s (bookCounts b) = refl
@@ -56,6 +57,7 @@ answers-the-number s (load ks) = refl
 answers-the-number s (nextName a) = (λ d. rw (ne-eqb (refusalOf s (nextName a)) 0 d), next-long s a)
 answers-the-number s (nextNameOut a o) = refl
 answers-the-number s (textureNameOut b m slot t o) = refl
+answers-the-number s (reach b ks ls a channels panes) = refl
 answers-the-number s (uvs ls ss o) = uvs-number ls ss o
 answers-the-number s (corners c size ox oy r) = corners-number c size ox oy r
 answers-the-number s (translate k d) = translate-number k d
@@ -97,6 +99,7 @@ declined-alone s (load ks) d = refl
 declined-alone s (nextName a) d = rw (ne-eqb (refusalOf s (nextName a)) 0 d)
 declined-alone s (nextNameOut a o) d = tt
 declined-alone s (textureNameOut b m slot t o) d = tt
+declined-alone s (reach b ks ls a channels panes) d = tt
 declined-alone s (uvs ls ss o) d = tt
 declined-alone s (corners c size ox oy r) d = ap (λ k. k .corners) (corners-zero c size ox oy r d)
 declined-alone s (translate k d′) d = ap (λ k. k .corners) (translate-zero k d′ d)

@@ -16,10 +16,11 @@ use Rattle.player.specs.Undo.{takeRows}
 use Rattle.menu_checks.specs.Counts.{sheetCountsTable, bookCountsTable}
 use Rattle.menu.specs.Rows.{playRows, poseRows, tickRows, dragRows, saveRows, playTable, poseTable, tickTable, editTable, takeTable, openTable, dragTable, closeTable, saveTable, nextNameTable}
 use Rattle.menu_readings.specs.Rows.{paneRows, paneChannelRows, materialChannelRows, layerRows, tablesRows, cascadeRows, readPaneTable, readMaterialTable, readAllTable, resolvePaneTable, resolveSrtTable, textureNameTable, cascadeTable}
+use Rattle.reach.specs.Calls.{reachTable}
 use Rattle.menu_c.specs.Naming.{nameRows, nextNameOutTable, textureNameOutTable}
 use Rattle.machine.specs.Asks.{paneChannel, materialChannel, all, pane, layer, texture, cascade, askTable}
 use Rattle.machine.specs.Calls.{Call, play, pose, tick, edit, undo, redo, openDrag, drag, dropDrag, abandonDrag, ask, save, State}
-use Rattle.refusals.specs.Outward.{Outward, made, sheetCounts, bookCounts, load, nextName, nextNameOut, textureNameOut, uvs, corners, translate, rotatePoint}
+use Rattle.refusals.specs.Outward.{Outward, made, sheetCounts, bookCounts, load, nextName, nextNameOut, textureNameOut, reach, uvs, corners, translate, rotatePoint}
 use Rattle.refusals.specs.Table.{callTable, tableOf, callNumbers, numbersOf, refusalOf}
 
 -- the numbers ns, in the order
@@ -50,7 +51,7 @@ call-ordered s (ask b (cascade visible alpha influence)) t = record { same = ref
 call-ordered s (save o) t = record { same = refl; ordered = refl }
 
 ordered-rows : (s : List ℕ) (c : Outward) → Ordered (tableOf s c) (numbersOf c)
-unfolding inOrder isIn from tableOf sheetCountsTable bookCountsTable loadTable nextNameTable nameRows nextNameOutTable layerRows textureNameTable textureNameOutTable uvsTable rotationRows cornersTable translateTable rotateTable
+unfolding inOrder isIn from tableOf sheetCountsTable bookCountsTable loadTable nextNameTable nameRows nextNameOutTable layerRows textureNameTable textureNameOutTable reachTable uvsTable rotationRows cornersTable translateTable rotateTable
 ordered-rows s (made c t) = call-ordered s c t
 ordered-rows s sheetCounts = record { same = refl; ordered = refl }
 ordered-rows s (bookCounts b) = record { same = refl; ordered = refl }
@@ -58,6 +59,7 @@ ordered-rows s (load ks) = record { same = refl; ordered = refl }
 ordered-rows s (nextName a) = record { same = refl; ordered = refl }
 ordered-rows s (nextNameOut a o) = record { same = refl; ordered = refl }
 ordered-rows s (textureNameOut b m slot t o) = record { same = refl; ordered = refl }
+ordered-rows s (reach b ks ls a channels panes) = record { same = refl; ordered = refl }
 ordered-rows s (uvs ls ss o) = record { same = refl; ordered = refl }
 ordered-rows s (corners c size ox oy r) = record { same = refl; ordered = refl }
 ordered-rows s (translate k d) = record { same = refl; ordered = refl }

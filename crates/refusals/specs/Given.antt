@@ -16,11 +16,12 @@ use Rattle.edit.specs.Keys.{Keys}
 use Rattle.menu_checks.specs.Counts.{noSheetCounts, noBookCounts, sheetCountsOf, bookCountsOf}
 use Rattle.menu.specs.Calls.{loadedOf, nextNameOf}
 use Rattle.menu_readings.specs.Readings.{noPane, noLayer}
+use Rattle.reach.specs.Calls.{reachOf}
 use Rattle.field.specs.Name.{nameBytes}
 use Rattle.menu_c.specs.Naming.{nextNameInto, textureNameInto}
 use Rattle.machine.specs.Asks.{Ask, paneChannel, materialChannel, all, pane, layer, texture, cascade, Told, one, tables, resolvedPane, resolvedLayer, name, cascaded}
 use Rattle.machine.specs.Calls.{Call, play, pose, tick, edit, undo, redo, openDrag, drag, dropDrag, abandonDrag, ask, save, Answer, number, editAnswer, ticked, told, written, State, stepP}
-use Rattle.refusals.specs.Outward.{Outward, made, sheetCounts, bookCounts, load, nextName, nextNameOut, textureNameOut, uvs, corners, translate, rotatePoint}
+use Rattle.refusals.specs.Outward.{Outward, made, sheetCounts, bookCounts, load, nextName, nextNameOut, textureNameOut, reach, uvs, corners, translate, rotatePoint}
 
 -- ---- the number
 
@@ -49,6 +50,7 @@ Answers s (load ks) n = loadedOf s ks .refusal ≡ n
 Answers s (nextName a) n = NameSays (nextNameOf s a) n
 Answers s (nextNameOut a o) n = nextNameInto s a o .refusal ≡ n
 Answers s (textureNameOut b m slot t o) n = textureNameInto s b (t .player) (t .keys) m slot o .refusal ≡ n
+Answers s (reach b ks ls a channels panes) n = reachOf s b ks ls a channels panes .refusal ≡ n
 Answers s (uvs ls ss o) n = uvsOf ls ss o .refusal ≡ n
 Answers s (corners c size ox oy r) n = placedOf c size ox oy r .refusal ≡ n
 Answers s (translate k d) n = movedOf k d .refusal ≡ n
@@ -78,6 +80,7 @@ AnswersAlone s (load ks) = loadedOf s ks .player ≡ freshPlayer
 AnswersAlone s (nextName a) = nextNameOf s a ≡ []
 AnswersAlone s (nextNameOut a o) = Unit {0}
 AnswersAlone s (textureNameOut b m slot t o) = Unit {0}
+AnswersAlone s (reach b ks ls a channels panes) = Unit {0}
 AnswersAlone s (uvs ls ss o) = Unit {0}
 AnswersAlone s (corners c size ox oy r) = placedOf c size ox oy r .corners ≡ noCorners
 AnswersAlone s (translate k d) = movedOf k d .corners ≡ noCorners
@@ -100,6 +103,15 @@ lentKeys ks = record { player = []; bytes = []; numbers = ks .frames ∷ ks .val
 
 abbrev pub lentOut : List (List ℕ) → List (List Float) → Lent
 lentOut bs ns = record { player = []; bytes = bs; numbers = ns }
+
+-- both sets of keys, and the outputs for channels and panes
+abbrev pub lentBoth : Keys → Keys → List ℕ → List ℕ → Lent
+lentBoth ks ls channels panes =
+    record {
+      player = [];
+      bytes = channels ∷ panes ∷ [];
+      numbers = ks .frames ∷ ks .values ∷ ks .slopes ∷ ls .frames ∷ ls .values ∷ ls .slopes ∷ [];
+    }
 
 -- before a reading, and after it
 abbrev pub lentTo : State → Ask → Lent
@@ -148,6 +160,7 @@ before (load ks) = lentKeys ks
 before (nextName a) = lentOut [] []
 before (nextNameOut a o) = lentOut (o ∷ []) []
 before (textureNameOut b m slot t o) = lentWith t (o ∷ []) []
+before (reach b ks ls a channels panes) = lentBoth ks ls channels panes
 before (uvs ls ss o) = lentOut [] (o ∷ [])
 before (corners c size ox oy r) = lentOut [] []
 before (translate k d) = lentOut [] []
@@ -162,6 +175,7 @@ after s (load ks) = lentKeys (loadedOf s ks .keys)
 after s (nextName a) = lentOut [] []
 after s (nextNameOut a o) = lentOut (nextNameInto s a o .out ∷ []) []
 after s (textureNameOut b m slot t o) = lentWith t (textureNameInto s b (t .player) (t .keys) m slot o .out ∷ []) []
+after s (reach b ks ls a channels panes) = let r = reachOf s b ks ls a channels panes in lentBoth ks ls (r .channels) (r .panes)
 after s (uvs ls ss o) = lentOut [] (uvsOf ls ss o .out ∷ [])
 after s (corners c size ox oy r) = lentOut [] []
 after s (translate k d) = lentOut [] []

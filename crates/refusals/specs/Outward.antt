@@ -1,5 +1,5 @@
 -- Every outward call, with all that it takes but the sheet: those of demand 3 with the player and keys that they are made on, counts, loading, names,
--- and UVs and corners (document 01, "What a call declines"). Definitions only.
+-- what differing keys reach, and UVs and corners (document 01, "What a call declines"). Definitions only.
 use Prim.Native.Nat.{ℕ}
 use mathlib.Core.List.{List}
 use lib.Ieee.{Float}
@@ -22,6 +22,8 @@ pub data Outward : Type 0 where
   nextNameOut : ℕ → List ℕ → Outward
   -- a material's texture name copied into an output: the book, the material and the slot
   textureNameOut : List ℕ → ℕ → ℕ → State → List ℕ → Outward
+  -- what differing keys reach: the book, the keys before and after, an animation, and the outputs for channels and panes
+  reach : List ℕ → Keys → Keys → ℕ → List ℕ → List ℕ → Outward
   -- layers, SRTs and an output
   uvs : List Float → List Float → List Float → Outward
   -- centre, size, both origins and the rotation

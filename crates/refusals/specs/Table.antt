@@ -11,10 +11,11 @@ use Rattle.edit.specs.declared.request.Request.{Request}
 use Rattle.edit.specs.declared.request.Request.the-variants as request
 use Rattle.menu_checks.specs.Counts.{sheetCountsTable, bookCountsTable}
 use Rattle.menu.specs.Rows.{playTable, poseTable, tickTable, editTable, undoTable, redoTable, openTable, dragTable, closeTable, saveTable, nextNameTable}
+use Rattle.reach.specs.Calls.{reachTable}
 use Rattle.menu_c.specs.Naming.{nextNameOutTable, textureNameOutTable}
 use Rattle.machine.specs.Asks.{Ask, paneChannel, materialChannel, all, pane, layer, texture, cascade, askTable}
 use Rattle.machine.specs.Calls.{Call, play, pose, tick, edit, undo, redo, openDrag, drag, dropDrag, abandonDrag, ask, save, State}
-use Rattle.refusals.specs.Outward.{Outward, made, sheetCounts, bookCounts, load, nextName, nextNameOut, textureNameOut, uvs, corners, translate, rotatePoint}
+use Rattle.refusals.specs.Outward.{Outward, made, sheetCounts, bookCounts, load, nextName, nextNameOut, textureNameOut, reach, uvs, corners, translate, rotatePoint}
 
 -- of the calls of demand 3
 unfoldable pub callTable : List ℕ → Call → State → List Row
@@ -39,6 +40,7 @@ tableOf s (load ks) = loadTable s (length (ks .frames)) (length (ks .values)) (l
 tableOf s (nextName a) = nextNameTable s a
 tableOf s (nextNameOut a o) = nextNameOutTable s a o
 tableOf s (textureNameOut b m slot t o) = textureNameOutTable s b (t .player) (t .keys) m slot o
+tableOf s (reach b ks ls a channels panes) = reachTable s b ks ls a channels panes
 tableOf s (uvs ls ss o) = uvsTable ls ss (length o)
 tableOf s (corners c size ox oy r) = cornersTable c size ox oy r
 tableOf s (translate k d) = translateTable k d
@@ -82,6 +84,7 @@ numbersOf (load ks) = 1 ∷ 3 ∷ 4 ∷ []
 numbersOf (nextName a) = 1 ∷ 6 ∷ []
 numbersOf (nextNameOut a o) = 1 ∷ 6 ∷ 13 ∷ []
 numbersOf (textureNameOut b m slot t o) = 1 ∷ 2 ∷ 3 ∷ 4 ∷ 5 ∷ 5 ∷ 7 ∷ 13 ∷ []
+numbersOf (reach b ks ls a channels panes) = 1 ∷ 2 ∷ 3 ∷ 3 ∷ 4 ∷ 4 ∷ 6 ∷ 13 ∷ []
 numbersOf (uvs ls ss o) = 8 ∷ 8 ∷ 8 ∷ 8 ∷ 12 ∷ 13 ∷ []
 numbersOf (corners c size ox oy r) = 7 ∷ 7 ∷ 8 ∷ 8 ∷ 8 ∷ 12 ∷ 12 ∷ 12 ∷ []
 numbersOf (translate k d) = 8 ∷ 8 ∷ []

@@ -4,3 +4,5 @@ pub mod Own
 pub mod Cascade
 pub mod Tables
 pub mod Textures
+pub mod Follow
+pub mod Untouched

@@ -9,6 +9,7 @@ pub mod curves;
 pub mod format;
 pub mod geometry;
 pub mod random;
+pub mod reach;
 pub mod reached;
 pub mod readings;
 pub mod sample;

@@ -7,46 +7,7 @@ use cases::curves::answer as curve_answer;
 use cases::format::sheet::{Sheet, Target};
 use cases::random::Random;
 use cases::readings::whole::{self, MATERIAL_CHANNELS, PANE_CHANNELS};
-use cases::readings::{Case, published_form, some};
-
-/// The channel that a target addresses, if any.
-fn channel(case: &Case, target: &Target) -> Option<usize> {
-    let content = &case.sheet.contents[usize::from(target.content)];
-    let (raw, layer) = (usize::from(target.raw), usize::from(target.layer));
-    let listed = |count: usize| if raw < count { raw } else { 0 };
-    match content.kind {
-        0 | 3 => {
-            let pane = case
-                .book
-                .panes
-                .iter()
-                .position(|p| p.label == content.name)?;
-            let own = match &target.code {
-                b"FLPA" => listed(10),
-                b"FLVI" => 10,
-                b"FLVC" if raw == 16 => 11,
-                b"FLVC" => 12 + listed(17),
-                _ => return None,
-            };
-            Some(PANE_CHANNELS * pane + own)
-        }
-        1 => {
-            let rows = &case.book.materials;
-            let material = rows.iter().position(|m| m.name == content.name)?;
-            let own = match &target.code {
-                b"FLTS" if layer < 3 => 5 * layer + listed(5),
-                b"FLTP" if layer < 3 => 15 + layer,
-                b"FLIM" => 18 + listed(3),
-                b"FLAC" => 21,
-                b"FLMC" if listed(28) < 4 => 22 + listed(28),
-                b"FLMC" => 26 + listed(28) % 4,
-                _ => return None,
-            };
-            Some(PANE_CHANNELS * case.book.panes.len() + MATERIAL_CHANNELS * material + own)
-        }
-        _ => None,
-    }
-}
+use cases::readings::{Case, addressed, published_form, some};
 
 /// What a target reads at a frame: the channel's number, or nothing for a
 /// texture index from X up.
@@ -66,18 +27,11 @@ fn number(sheet: &Sheet, target: &Target, frame: f32) -> Option<f32> {
 
 /// The last target that addresses a channel decides it.
 fn plain_reading(case: &Case) -> whole::Reading {
-    let length =
-        PANE_CHANNELS * case.book.panes.len() + MATERIAL_CHANNELS * case.book.materials.len();
-    let mut channels = vec![None; length];
+    let mut channels = vec![None; addressed::channels(&case.book)];
     if let Some((animation, frame)) = case.active {
-        for target in &case.sheet.targets {
-            let content = &case.sheet.contents[usize::from(target.content)];
-            if usize::from(content.animation) != animation {
-                continue;
-            }
-            if let Some(channel) = channel(case, target) {
-                channels[channel] = number(&case.sheet, target, frame);
-            }
+        let deciding = addressed::deciding(&case.sheet, &case.book, animation);
+        for (channel, target) in channels.iter_mut().zip(deciding) {
+            *channel = target.and_then(|t| number(&case.sheet, &case.sheet.targets[t], frame));
         }
     }
     whole::Reading {

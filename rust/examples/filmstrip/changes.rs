@@ -2,9 +2,10 @@
 
 use dovebolt::{BookView, Channel, Channels, MaterialChannel, Name, PaneChannel};
 
-use crate::menu::Menu;
-use crate::unit::Unit;
-use crate::words;
+use crate::drawing::menu::Menu;
+use crate::drawing::unit::Unit;
+use crate::drawing::words;
+use crate::picture::wrapped;
 
 const MOST_LINES: usize = 2;
 
@@ -82,7 +83,7 @@ pub fn lines(changes: &[Change], size: f64, room: f64) -> Vec<String> {
         let tail = more(changes.len() - shown);
         let space = if tail.is_empty() { "" } else { " " };
         let words = parts.join(", ") + space + &tail;
-        let lines = words::wrapped(&words, size, room);
+        let lines = wrapped(&words, size, room);
         (lines.len() <= MOST_LINES && lines.join(" ") == words).then_some(lines)
     };
     let counts = (1..=changes.len().min(MOST_CHANGES)).rev();
@@ -101,7 +102,7 @@ fn cut(changes: &[Change], size: f64, room: f64) -> Vec<String> {
     let Some(first) = changes.first() else {
         return vec![];
     };
-    let lines = words::wrapped(&first.short, size, room);
+    let lines = wrapped(&first.short, size, room);
     let tail = match more(changes.len() - 1) {
         none if none.is_empty() && lines.len() <= MOST_LINES => return lines,
         none if none.is_empty() => "…".to_string(),

@@ -3,22 +3,15 @@
 //!
 //!     cargo run --example filmstrip -- ../samples/title.sheet ../samples/title.book 0 FOLDER
 
-mod axis;
-mod cell;
 mod changes;
 #[path = "../common/mod.rs"]
 mod common;
-mod keys;
-mod menu;
+#[path = "../drawing/mod.rs"]
+mod drawing;
 mod moments;
-mod plot;
-mod rect;
-mod stage;
+mod picture;
 mod strip;
-mod svg;
 mod track;
-mod unit;
-mod words;
 
 use std::error::Error;
 use std::ffi::OsString;
@@ -28,10 +21,15 @@ use std::{env, fs};
 
 use common::{ended, named, of_file, read};
 use dovebolt::{BookView, Player, Refusal, SheetView};
-use menu::Menu;
+use drawing::menu::Menu;
 
 fn write(path: &Path, picture: &str) -> Result<(), String> {
     of_file(path, fs::write(path, picture))
+}
+
+/// How the names of an animation's pictures begin.
+fn stem(menu: &Menu) -> String {
+    format!("{}-{}", menu.name, menu.animation.number)
 }
 
 /// Draws each track that reaches the book. Of those that reach the same channel the last counts.
@@ -55,7 +53,7 @@ fn draw_tracks(
         let counts = last.map_or(track, |(track, _)| track);
         let drawn = track::picture(player, menu, track, *place, counts);
         let picture = named(&format!("{sheet_file}: track {}", track.number), drawn)?;
-        let name = format!("{}-track-{}.svg", menu.stem(), track.number);
+        let name = format!("{}-track-{}.svg", stem(menu), track.number);
         write(&folder.join(name), &picture)?;
     }
     Ok(())
@@ -88,7 +86,7 @@ fn draw(
         animation,
     };
     let strip = named(&sheet_file, strip::filmstrip(&mut player, &menu))?;
-    write(&folder.join(format!("{}.svg", menu.stem())), &strip)?;
+    write(&folder.join(format!("{}.svg", stem(&menu))), &strip)?;
     draw_tracks(&mut player, &menu, &sheet_file, folder)?;
     Ok(())
 }

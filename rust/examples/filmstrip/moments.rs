@@ -4,8 +4,8 @@ use dovebolt::{Cascaded, Channels, Player, Refusal};
 
 use crate::changes::{self, Change};
 use crate::common::named;
-use crate::menu::Menu;
-use crate::stage::{self, Shown};
+use crate::drawing::menu::Menu;
+use crate::drawing::stage::{self, Shown};
 
 /// A part of the strip.
 pub enum Part {

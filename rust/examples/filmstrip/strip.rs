@@ -4,11 +4,13 @@ use std::fmt::Write;
 
 use dovebolt::{Animation, BookView, Player};
 
-use crate::cell::{View, drawing};
-use crate::menu::Menu;
+use crate::changes;
+use crate::drawing::cell::{View, drawing};
+use crate::drawing::menu::Menu;
+use crate::drawing::svg::{self, MARGIN, WIDTH};
+use crate::drawing::words;
 use crate::moments::{Drawn, Part, parts};
-use crate::svg::{self, About, MARGIN, WIDTH};
-use crate::{changes, words};
+use crate::picture::{self, About, MIDDLE};
 
 const GAP: f64 = 14.0;
 /// From a line of text to the next below a cell.
@@ -73,7 +75,7 @@ fn cell(view: &View, book: BookView, drawn: &Drawn, placed: &Placed, y: f64) -> 
         "<svg x=\"{x:.1}\" y=\"{y:.1}\" width=\"{width:.1}\" height=\"{height:.1}\">\
          <rect width=\"100%\" height=\"100%\" fill=\"{}\"/>\n{}</svg>\n{}",
         svg::CELL,
-        drawing(view, book, &drawn.shown),
+        drawing(view, book, &drawn.shown, &[]),
         frame(x, y, width, height, "")
     );
     let caption = format!("frame {}", drawn.frame);
@@ -99,7 +101,7 @@ fn still(view: &View, first: usize, last: usize, x: f64, y: f64) -> String {
     } else {
         format!("frames {first} to {last}: as frame {like}")
     };
-    let lines = words::wrapped(&words, svg::SMALL, NARROW - 8.0);
+    let lines = picture::wrapped(&words, svg::SMALL, NARROW - 8.0);
     let mut out = format!("<g>{}\n", svg::title(&words));
     out += &frame(x, y, NARROW, view.height, " stroke-dasharray=\"4 3\"");
     let top = y + view.height * 0.5 - STEP * lines.len() as f64 * 0.5;
@@ -123,8 +125,8 @@ fn legend(book: BookView, y: f64) -> (String, f64) {
             svg::fill(&pane),
             svg::stroke(&pane)
         );
-        let label = words::cut(&pane.label.text(), svg::MIDDLE, column - 24.0);
-        out += &svg::text(x + 18.0, y + 10.5, svg::MIDDLE, svg::INK, "", &label);
+        let label = words::cut(&pane.label.text(), MIDDLE, column - 24.0);
+        out += &svg::text(x + 18.0, y + 10.5, MIDDLE, svg::INK, "", &label);
     }
     let rows = (book.panes().len() - 1).div_ceil(LEGEND_COLUMNS);
     (out, y + rows as f64 * LEGEND_ROW)
@@ -163,7 +165,7 @@ pub fn filmstrip(player: &mut Player, menu: &Menu) -> Result<String, String> {
     let view = View::new(size, cell_width(parts.len()));
     let summary = summary(&menu.animation, cells);
 
-    let (mut body, below) = svg::heading(&menu.title(), &format!("{summary} {ABOUT_CELLS}"));
+    let (mut body, below) = picture::heading(&menu.title(), &format!("{summary} {ABOUT_CELLS}"));
     let mut y = below + GAP + 4.0;
     for row in rows(&parts, view.width) {
         for placed in &row {
@@ -182,5 +184,5 @@ pub fn filmstrip(player: &mut Player, menu: &Menu) -> Result<String, String> {
             "{summary} A cell a frame, {cells} in all, each with the outlines of its panes."
         ),
     };
-    Ok(svg::picture(below + GAP, &about, &(body + &legend)))
+    Ok(picture::picture(below + GAP, &about, &(body + &legend)))
 }

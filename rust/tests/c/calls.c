@@ -309,6 +309,40 @@ static void readings(menu_player player) {
     CHECK(menu_cascade(player, LENT, visible, PANES, alpha, PANES, influence, 1) == MENU_OUTPUT_LENGTH);
 }
 
+/* With an edit the edited track's channel and its pane; without one nothing; declined, the outputs stay. */
+static void reaching(menu_player player) {
+    float old[3][KEYS];
+    uint8_t channels[CHANNELS], panes[PANES], none[CHANNELS] = {0};
+    memcpy(old[0], frames, sizeof frames);
+    memcpy(old[1], values, sizeof values);
+    memcpy(old[2], slopes, sizeof slopes);
+#define OLD_KEYS old[0], KEYS, old[1], KEYS, old[2], KEYS
+#define BEFORE sheet, sheet_len, book, book_len, OLD_KEYS
+    memset(channels, 0xA5, sizeof channels);
+    CHECK(menu_reach(BEFORE, LENT_KEYS, 0, channels, CHANNELS, panes, PANES) == MENU_OK);
+    CHECK(memcmp(channels, none, CHANNELS) == 0 && panes[0] == 0 && panes[1] == 0);
+
+    menu_edited edited = menu_key_edit(player, sheet, sheet_len, LENT_KEYS, TRACK, KEY, 6, 20);
+    CHECK(edited.refusal == MENU_OK && menu_reach(BEFORE, LENT_KEYS, 0, channels, CHANNELS, panes, PANES) == MENU_OK);
+    const size_t moved = MENU_PANE_CHANNELS + MENU_PANE_TRANSLATE_X;
+    CHECK(channels[moved] == 1 && panes[0] == 0 && panes[1] == 1);
+    channels[moved] = 0;
+    CHECK(memcmp(channels, none, CHANNELS) == 0);
+    CHECK(menu_reach(BEFORE, LENT_KEYS, 1, channels, CHANNELS, panes, PANES) == MENU_OK);
+    CHECK(memcmp(channels, none, CHANNELS) == 0 && panes[0] == 0 && panes[1] == 0);
+
+    panes[1] = 0xA5;
+    CHECK(menu_reach(BEFORE, LENT_KEYS, 2, channels, CHANNELS, panes, PANES) == MENU_ANIMATION);
+    CHECK(menu_reach(BEFORE, LENT_KEYS, 0, channels, CHANNELS, panes, 1) == MENU_OUTPUT_LENGTH);
+    CHECK(menu_reach(BEFORE, LENT_KEYS, 0, channels, CHANNELS - 1, panes, PANES) == MENU_OUTPUT_LENGTH);
+    CHECK(menu_reach(BEFORE, frames, KEYS, values, KEYS, slopes, 1, 0, channels, CHANNELS, panes, PANES) ==
+          MENU_KEY_LENGTHS);
+    old[1][PLACE] = NAN;
+    CHECK(menu_reach(BEFORE, LENT_KEYS, 2, channels, CHANNELS, panes, PANES) == MENU_KEY_RULES);
+    CHECK(memcmp(channels, none, CHANNELS) == 0 && panes[0] == 0 && panes[1] == 0xA5);
+    CHECK(menu_undo(edited.player, sheet, sheet_len, LENT_KEYS).refusal == MENU_OK);
+}
+
 static void shapes(void) {
     menu_vector2 center = {10, 20}, size = {4, 2}, delta = {100, 200};
     menu_vector3 still = {0, 0, 0}, steep = {0, 3601, 0};
@@ -347,6 +381,7 @@ int main(int count, char **arguments) {
     returning(player);
     dragging(player);
     saving(player);
+    reaching(player);
     shapes();
     return failed;
 }

@@ -1,6 +1,7 @@
 //! Pictures of tracks: the keys' labels and the value axes.
 
-use super::{after_each, drawn, edited, height_of, line, picture, small, title};
+use super::{drawn, edited, height_of, line, picture, small, title};
+use crate::markup::after_each;
 use crate::menu;
 
 /// A key's label is the value and the frame as they are stored: what is printed reads back.

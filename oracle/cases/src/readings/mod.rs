@@ -1,6 +1,7 @@
 //! What the Rust reads from a sheet and a book: `AnimationState::evaluate` of an
 //! animation at a frame, both resolves, and the cascade.
 
+pub mod addressed;
 pub mod published_form;
 pub mod rows;
 pub mod some;

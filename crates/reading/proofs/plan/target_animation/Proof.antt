@@ -1,7 +1,7 @@
 -- The animation of the target's content.
 use borrow.Author.Needs.{needs}
 use Rattle.sheet.specs.Checked.{target-content}
-use Rattle.reading.specs.Plan.{targetAnimation}
+use Rattle.channel.specs.Animation.{targetAnimation}
 use Rattle.reading.proofs.plan.target_animation.Statement.{statement}
 use Rattle.reading.proofs.plan.target_animation.Tie as tie
 

@@ -3,7 +3,7 @@ use Prim.Native.Nat.{_-_}
 use mathlib.Core.Path.{_≡_}
 use native.Mathlib.Omega.{arith}
 use Rattle.sheet.specs.Sizes.{targetCount}
-use Rattle.reading.specs.Plan.{targetAnimation}
+use Rattle.channel.specs.Animation.{targetAnimation}
 use Rattle.laws.specs.Parted.{Parted, parted-none, parted-low, parted-high, parted-met}
 use Rattle.reading.proofs.Planning.{animations-climb}
 use Rattle.reading.proofs.plan.targets_below.Statement.{statement}
