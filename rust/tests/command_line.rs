@@ -23,8 +23,14 @@ mod numbers;
 mod objects;
 #[path = "command_line/program.rs"]
 mod program;
+#[path = "common/random.rs"]
+mod random;
 #[path = "command_line/raw_bytes.rs"]
 mod raw_bytes;
+#[path = "command_line/reach.rs"]
+mod reach;
+#[path = "command_line/reach_chance.rs"]
+mod reach_chance;
 #[path = "command_line/replay.rs"]
 mod replay;
 #[path = "command_line/saving.rs"]

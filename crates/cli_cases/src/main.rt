@@ -1,5 +1,5 @@
-// First mistakes, files of every kind, why they are declined, what is in them, sheets that are saved, drags, names and JSON, on the command line: each case with
-// a heading, what it is answered, and what it came to. Errors stand in line here, since only standard output is compared.
+// First mistakes, files of every kind, why they are declined, what is in them, sheets that are saved, drags, names and JSON, and what edits reach, on the
+// command line: each case with a heading, what it is answered, and what it came to. Errors stand in line here, since only standard output is compared.
 use cli_page::Out;
 use cli_page::PAGE;
 use cli_page::say;
@@ -130,6 +130,32 @@ fn name_cases() {
     list(b"replay\0title.sheet\0title.book\0--json", b"names.calls");
 }
 
+// What edits reach: none; one channel; a parent's alpha, with its children; tracks that address nothing or that a later one overrides; a name that differs;
+// files that are no two sheets and a book.
+fn reach_cases() {
+    case(b"reach\0title.sheet\0title.sheet\0title.book");
+    case(b"reach\0title.sheet\0one.sheet\0title.book");
+    case(b"reach\0title.sheet\0alpha.sheet\0title.book");
+    case(b"reach\0title.sheet\0alpha.sheet\0title.book\0--json");
+    case(b"reach\0title.sheet\0nothing.sheet\0title.book");
+    case(b"reach\0title.sheet\0named.sheet\0title.book");
+    case(b"reach\0title.sheet\0box.sheet\0title.book");
+    case(b"reach\0title.sheet\0falling.sheet\0title.book");
+    case(b"reach\0title.sheet\0title.sheet\0damaged.book");
+    case(b"reach\0title.sheet\0missing.sheet\0title.book");
+    case(b"reach\0title.sheet\0one.sheet");
+    case(b"reach\0title.sheet\0one.sheet\0title.book\0more");
+}
+
+// Readings of every kind, in text and as objects; and a curve that is no number between its keys.
+fn reading_cases() {
+    list(b"replay\0title.sheet\0title.book", b"many.calls");
+    case(b"reach\0title.sheet\0many.sheet\0title.book");
+    case(b"reach\0many.sheet\0title.sheet\0title.book\0--json");
+    list(b"replay\0title.sheet\0title.book", b"huge.calls");
+    case(b"reach\0title.sheet\0huge.sheet\0title.book");
+}
+
 fn main() {
     usage_cases();
     check_cases();
@@ -140,4 +166,6 @@ fn main() {
     save_cases();
     drag_cases();
     name_cases();
+    reach_cases();
+    reading_cases();
 }

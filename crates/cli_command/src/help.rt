@@ -28,6 +28,15 @@ fn files(o: Out, page: &mut [u8; PAGE]) -> Out {
     )
 }
 
+fn edits(o: Out, page: &mut [u8; PAGE]) -> Out {
+    let p = line(o, page, b"menu_cli reach OLD NEW BOOK");
+    line(
+        p,
+        page,
+        b"    what the edits between two sheets reach: each edited track, the frames that it changes, and every pane touched or untouched",
+    )
+}
+
 fn calls(o: Out, page: &mut [u8; PAGE]) -> Out {
     let p = line(o, page, b"menu_cli replay SHEET BOOK < CALLS");
     let q = line(
@@ -83,7 +92,7 @@ fn rest(o: Out, page: &mut [u8; PAGE]) -> Out {
 }
 
 pub fn usage(o: Out, page: &mut [u8; PAGE]) -> Out {
-    rest(calls(files(o, page), page), page)
+    rest(calls(edits(files(o, page), page), page), page)
 }
 
 // The program's version, which the Rust package has too.

@@ -1,5 +1,6 @@
 // The commands of the command line. A command line is a text of words, each ended by a zero byte.
 mod check;
+mod edits;
 mod frames;
 mod info;
 mod open;
@@ -25,6 +26,9 @@ fn command(o: Out, page: &mut [u8; PAGE], line: &[u8]) -> Out {
     }
     if same(name, b"frames") {
         return open::open(o, page, line, false);
+    }
+    if same(name, b"reach") {
+        return edits::reach(o, page, line);
     }
     if same(name, b"replay") {
         return open::open(o, page, line, true);

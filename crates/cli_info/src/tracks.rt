@@ -30,11 +30,16 @@ fn say_address(o: Out, page: &mut [u8; PAGE], s: &[u8], at: usize, row: Target) 
     let p = cli_page::bytes(o, page, b" ", b"code", &s[code..end]);
     let q = count(p, page, b" layer ", b"layer", row.layer as u64);
     let r = count(q, page, b" raw ", b"raw", row.raw as u64);
-    cli_page::lead(
-        cli_page::note(r, page, b"channel", b"none"),
-        page,
-        b" addresses nothing",
-    )
+    cli_page::note(r, page, b"channel", b"none")
+}
+
+// The code, layer and raw number of track i.
+pub fn say_code(o: Out, page: &mut [u8; PAGE], s: &[u8], i: usize) -> Out
+    requires { ⌜ Checked (now s) × (i < targetCount (now s)) ⌝ }
+{
+    let row = sheet::target_row(s, i);
+    let at = sheet::targets_at(s) + i * sheet::TARGET_BYTES;
+    say_address(o, page, s, at, row)
 }
 
 // The channel that a track addresses, by name.
@@ -52,8 +57,7 @@ fn say_channel(o: Out, page: &mut [u8; PAGE], s: &[u8], i: usize, kind: usize) -
             return cli_printed::name_material_channel(o, page, c);
         }
     }
-    let at = sheet::targets_at(s) + i * sheet::TARGET_BYTES;
-    say_address(o, page, s, at, row)
+    cli_page::lead(say_code(o, page, s, i), page, b" addresses nothing")
 }
 
 // Where a track stands: its animation, its content, and the content's type and name.

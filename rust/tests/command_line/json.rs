@@ -9,6 +9,8 @@ pub enum Value {
     /// As it is written.
     Number(String),
     Text(String),
+    List(Vec<Value>),
+    Inner(Object),
 }
 
 /// The members in their order.
@@ -42,6 +44,28 @@ impl Object {
         match self.get(key) {
             Some(Value::Number(n)) => n.parse().unwrap(),
             other => panic!("{key} is {other:?}, not a count, in {self:?}"),
+        }
+    }
+
+    pub fn inner(&self, key: &str) -> &Object {
+        match self.get(key) {
+            Some(Value::Inner(object)) => object,
+            other => panic!("{key} is {other:?}, not an object, in {self:?}"),
+        }
+    }
+
+    /// The numbers of a member that is a list of pairs.
+    pub fn pairs(&self, key: &str) -> Vec<[usize; 2]> {
+        let pair = |value: &Value| match value {
+            Value::List(pair) => match &pair[..] {
+                [Value::Number(a), Value::Number(b)] => [a.parse().unwrap(), b.parse().unwrap()],
+                other => panic!("{other:?} is no pair of counts, in {self:?}"),
+            },
+            other => panic!("{other:?} is no list, in {self:?}"),
+        };
+        match self.get(key) {
+            Some(Value::List(list)) => list.iter().map(pair).collect(),
+            other => panic!("{key} is {other:?}, not a list, in {self:?}"),
         }
     }
 
@@ -109,7 +133,25 @@ fn value(source: &mut Source) -> Result<Value, String> {
         Some('"') => text(source).map(Value::Text),
         Some('t') => literal(source, "true").map(|()| Value::Bool(true)),
         Some('f') => literal(source, "false").map(|()| Value::Bool(false)),
+        Some('[') => list(source).map(Value::List),
+        Some('{') => members(source).map(Value::Inner),
         _ => number(source).map(Value::Number),
+    }
+}
+
+fn list(source: &mut Source) -> Result<Vec<Value>, String> {
+    let mut list = Vec::new();
+    expect(source, '[')?;
+    if source.next_if_eq(&']').is_some() {
+        return Ok(list);
+    }
+    loop {
+        list.push(value(source)?);
+        match source.next() {
+            Some(',') => {}
+            Some(']') => return Ok(list),
+            other => return Err(format!("{other:?} behind an element")),
+        }
     }
 }
 
@@ -186,6 +228,15 @@ fn the_parser_reads_objects() {
     assert_eq!((read.float("a"), read.text("b")), (-500.0, "\"\u{1b}\\ü"));
     assert!(read.flag("c") && read.count("d") == 0 && !read.has("f"));
     assert_eq!(read.float("e").to_bits(), 1);
+    let read = object(r#"{"a":[],"b":[[1,2],[3,3]],"c":{"d":0,"e":{}}}"#).unwrap();
+    assert_eq!(
+        (read.pairs("a"), read.pairs("b")),
+        (vec![], vec![[1, 2], [3, 3]])
+    );
+    assert_eq!(
+        (read.inner("c").count("d"), read.inner("c").has("a")),
+        (0, false)
+    );
     assert_eq!(object("{}"), Ok(Object(vec![])));
 }
 
@@ -214,6 +265,10 @@ fn the_parser_declines_what_is_no_object() {
         "{\"a\":\"",
         "{\"a\":tru}",
         "{\"a\":1e}",
+        "{\"a\":[1,]}",
+        "{\"a\":[1}",
+        "{\"a\":[,1]}",
+        "{\"a\":{\"b\"}}",
     ];
     for line in broken {
         assert!(object(line).is_err(), "{line} was read");

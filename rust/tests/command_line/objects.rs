@@ -43,6 +43,8 @@ fn of_every_command() {
     for animation in ["0", "1", "2"] {
         line_by_line(&["frames", &sheet, &book, animation]);
     }
+    line_by_line(&["reach", &sheet, &sheet, &book]);
+    line_by_line(&["reach", &sheet, &damaged, &book]);
     line_by_line(&["help"]);
     line_by_line(&["version"]);
 }

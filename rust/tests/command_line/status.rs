@@ -53,6 +53,17 @@ fn of_each_command() {
         ("frames title.sheet title.book 3", 2),
         ("frames title.sheet title.book x", 2),
         ("frames title.sheet title.book 0 4 3", 2),
+        ("reach title.sheet title.sheet title.book", 0),
+        ("reach damaged.sheet title.sheet title.book", 1),
+        ("reach title.sheet damaged.sheet title.book", 1),
+        ("reach title.sheet title.sheet damaged.book", 1),
+        ("reach none.sheet title.sheet title.book", 2),
+        ("reach title.sheet none.sheet title.book", 2),
+        ("reach title.sheet title.sheet none.book", 2),
+        ("reach title.sheet title.sheet title.book more", 2),
+        ("reach title.sheet title.sheet", 2),
+        ("reach title.sheet", 2),
+        ("reach", 2),
         ("replay title.sheet title.book", 0),
         ("replay damaged.sheet title.book", 1),
         ("replay title.sheet damaged.book", 1),
@@ -111,13 +122,14 @@ fn shell(line: &str, list: &[&OsStr]) -> Ran {
 }
 
 /// The commands that print, each with what it is run on.
-fn printing<'a>(sheet: &'a Path, book: &'a Path) -> [Vec<&'a OsStr>; 4] {
+fn printing<'a>(sheet: &'a Path, book: &'a Path) -> [Vec<&'a OsStr>; 5] {
     let [sheet, book]: [&OsStr; 2] = [sheet.as_ref(), book.as_ref()];
     [
         vec!["help".as_ref()],
         vec!["check".as_ref(), sheet],
         vec!["info".as_ref(), sheet, book],
         vec!["frames".as_ref(), sheet, book, "0".as_ref()],
+        vec!["reach".as_ref(), sheet, sheet, book],
     ]
 }
 
