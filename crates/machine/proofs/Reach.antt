@@ -1,29 +1,35 @@
 -- The law of reach over calls: a call moves the keys of one track at most, and so does a list of the tracks that its calls are about; every channel that
 -- another track decides reads the same after it as before. Any state, any call: broken ones are declined, and then nothing moves. Assumes nothing.
-use Prim.Native.Nat.{ℕ, _<_, _≤_, _^_}
+use Prim.Native.Nat.{ℕ, _+_, _<_, _≤_, _^_}
 use mathlib.Core.Bool.{Bool, true, false, cond}
 use mathlib.Core.List.{List, [], _∷_, _++_}
 use mathlib.Core.Path.{_≡_, refl, sym, ap, _∙_}
 use native.Mathlib.Omega.{arith}
 use borrow.Author.Tests.{eqb-true, eqb-false, not-true}
-use lib.Dec.{eqb}
+use lib.Dec.{T, eqb}
 use lib.ListN.{length, length-append}
-use lib.Ieee.{Float}
+use lib.Ieee.{Float, binary32, fits}
 use Rattle.laws.specs.Rows.{Row, declines, held-at, first-held, hold-at, row-in}
 use Rattle.laws.specs.declared.Found.the-variants as found
 use Rattle.sheet.specs.Sizes.{targetCount}
+use Rattle.sheet.specs.Rows.{targetRow}
 use Rattle.sheet.specs.Checked.{Checked}
+use Rattle.keys.specs.Checked.{keys-checked}
 use Rattle.book.specs.Checked.{CheckedBook}
 use Rattle.curve.specs.declared.Key.{Key}
+use Rattle.curve.specs.Keys.{partOf}
+use Rattle.curve.specs.Curve.{kindConstant}
+use Rattle.curve.specs.Outside.{outside, picked}
 use Rattle.channel.specs.Channel.{targetChannel}
 use Rattle.reading.specs.Reading.{lastTarget}
 use Rattle.reading.specs.LastTarget.{last-target-only}
 use Rattle.reading.specs.Untouched.{untouched-reads}
 use Rattle.reading.specs.declared.Active.{Active}
 use Rattle.reading.specs.declared.Active.the-variants as active
-use Rattle.edit.specs.Keys.{Keys, putKey}
+use Rattle.edit.specs.Keys.{Keys, keyAt, putKey, get-other, HeldKeys, keysOkOf}
 use Rattle.edit.specs.Edit.{hasKey, place, edited, unchanged, editRows, requestRows, spotOf}
-use Rattle.edit.specs.Accepted.{accepted-key}
+use Rattle.edit.specs.Put.{has-key}
+use Rattle.edit.specs.Accepted.{HeldRequest, accepted-key, edit-keeps, edit-held}
 use Rattle.edit.specs.declared.request.Request.{Request}
 use Rattle.edit.specs.declared.request.Request.the-variants as request
 use Rattle.player.specs.declared.Player.{Player}
@@ -36,8 +42,10 @@ use Rattle.menu_checks.specs.Rows.{stateRows}
 use Rattle.menu_checks.specs.Checks.{StateReady, state-ready}
 use Rattle.menu.specs.Rows.{editTable, takeTable, dragTable, dragRows, closeTable}
 use Rattle.menu.specs.Calls.{editOf, takeOf, dragOf, abandonOf, loadedOf}
+use Rattle.reach.specs.Ready.{Compared}
 use Rattle.reach.specs.Law.{SameTrack, SameReading, put-others}
 use Rattle.reach.specs.OneTrack.{Reaches, track-reaches}
+use Rattle.reach.specs.InTime.{outside-reads, picked-reads, then-all}
 use Rattle.machine.specs.Runs.{last, Each}
 use Rattle.machine.specs.Calls.{Call, play, pose, tick, edit, undo, redo, openDrag, drag, dropDrag, abandonDrag, ask, save, HeldCall, State, stepP}
 use Rattle.machine.specs.Plain.{keysOf, stepM, freshM}
@@ -198,3 +206,44 @@ between s b arrays e cs ds held h a x c spared =
     let k = standing-edits-decide s arrays e cs (each-first HeldCall cs ds held) (omega (arith, length-append cs ds)) in
     let l = standing-edits-decide s arrays e (cs ++ ds) held h in
     same-by s b (active.At a x) c (k .0 .keys) (sym (ap (λ (q : State). q .keys) (last-append (stepP s) cs ds t)) ∙ l .0 .keys) (list-reaches s b ds (last (stepP s) cs t) a x c spared)
+
+-- ---- in time: one key in another's place, as an edit, a drag, an undo, a redo and an abandonment put it, within the key rules before and after
+
+module _ {s : List ℕ} (w : Checked s) (ks : Keys) (track key : ℕ) (k : Key) (has : hasKey s track key ≡ true) (before : keysOkOf s ks ≡ true) (after : keysOkOf s (putKey ks (place s track key) k) ≡ true)
+    (hk : HeldKeys ks) (hl : HeldKeys (putKey ks (place s track key) k)) where
+  abbrev ls : Keys
+  ls = putKey ks (place s track key) k
+
+  compared : Compared s ks ls
+  compared = record { sheet = w; old = keys-checked s (ks .frames) (ks .values) (ks .slopes) before; new = keys-checked s (ls .frames) (ls .values) (ls .slopes) after }
+
+  other-keys : (j : ℕ) → j < targetRow s track .count → (key ≤ j → j ≤ key → ⊥) → keyAt ls (place s track j) ≡ keyAt ks (place s track j)
+  other-keys j l d = get-other ks (place s track key) (place s track j) k (λ e. apart (unfold place in e))
+    where
+      apart : targetRow s track .first + j ≡ targetRow s track .first + key → ⊥
+      apart e = d (omega arith) (omega arith)
+
+  -- strictly outside the span from the previous key's frame to the next key's, every channel reads the same
+  pub put-outside : (x : Float) → T (fits binary32 x) → (targetRow s track .curve ≡ kindConstant → ⊥) → outside (partOf (targetRow s track .first) (targetRow s track .count) (ks .frames)) key key x ≡ true
+      → (b : List ℕ) (a c : ℕ) → SameReading s b ks (putKey ks (place s track key) k) (active.At a x) c
+  put-outside x hx d e =
+      let q = has-key s track key has in
+      then-all compared hk hl track (q .0) key key (omega arith) (q .1) other-keys (put-others w ks track key k has) x
+      (outside-reads compared hk hl track (q .0) key key (omega arith) (q .1) other-keys x hx d e)
+
+  -- and on a Constant curve wherever the frame picks another key
+  pub put-picked : (x : Float) → targetRow s track .curve ≡ kindConstant
+      → (key ≤ picked (partOf (targetRow s track .first) (targetRow s track .count) (ks .frames)) x → picked (partOf (targetRow s track .first) (targetRow s track .count) (ks .frames)) x ≤ key → ⊥)
+      → (b : List ℕ) (a c : ℕ) → SameReading s b ks (putKey ks (place s track key) k) (active.At a x) c
+  put-picked x e d =
+      let q = has-key s track key has in
+      then-all compared hk hl track (q .0) key key (omega arith) (q .1) other-keys (put-others w ks track key k has) x
+      (picked-reads compared hk hl track (q .0) key key (omega arith) (q .1) other-keys x e d)
+
+-- so after every key edit, slope edit and drag whose request is not declined
+pub edit-outside : {s : List ℕ} (w : Checked s) (ks : Keys) → keysOkOf s ks ≡ true → HeldKeys ks → (track key : ℕ) → hasKey s track key ≡ true
+    → (r : Request) → HeldRequest r → declines (requestRows (ks .frames) (spotOf s track key) r) ≡ 0
+    → (x : Float) → T (fits binary32 x) → (targetRow s track .curve ≡ kindConstant → ⊥) → outside (partOf (targetRow s track .first) (targetRow s track .count) (ks .frames)) key key x ≡ true
+    → (b : List ℕ) (a c : ℕ) → SameReading s b ks (putKey ks (place s track key) (edited s ks track key r)) (active.At a x) c
+edit-outside {s} w ks ok hk track key has r hr e =
+    put-outside w ks track key (edited s ks track key r) has ok (edit-keeps w ks ok (hk .frames) track key has r hr e) hk (edit-held s ks track key r hk hr e)
