@@ -1,4 +1,6 @@
 // The book: a lent slice of bytes that holds panes and materials.
+#![tactic(auto)]
+
 mod layout;
 mod rows;
 

@@ -18,7 +18,7 @@ pub const MATERIAL_BYTES: usize = 156;
 // The parent of a pane with none.
 pub const NO_PARENT: usize = 65535;
 
-#[derive(Drop)]
+#[derive(Clone, Copy)]
 pub struct Pane {
     pub parent: usize,
     pub visible: bool,

@@ -1,8 +1,7 @@
--- The sixteen corner colours by name (document 02, 3/13): which one a raw number stands for, which channel each has, and that these are the channels which
--- `pane_channel` gives by number. Assumes nothing.
-use Rattle.std.specs.Prelude.{ℕ, ◌+◌, ◌<◌, ◌≡◌, refl, Bool, List, [], ◌∷◌, eqb, get_or}
-use Rattle.std.proofs.Common.{arith, eqb-true, ne_eqb, lt-ltb, le-ltb}
-use Rattle.laws.specs.Below.{all_below, all_at}
+-- The sixteen corner colours by name (document 02, 3/13): which one a raw number stands for, and which channel each has. That these are the channels which
+-- `pane_channel` gives by number is shown in proofs/Corners. Assumes nothing.
+use Rattle.std.specs.Prelude.{ℕ, ◌<◌, ◌≡◌, refl, List, [], ◌∷◌, get_or}
+use Rattle.std.proofs.Common.{arith, le-ltb}
 use Rattle.laws.specs.declared.Found.TheVariants as found
 use Rattle.channel.specs.Channel.{alpha_channel, listed, pane_channel}
 use Rattle.channel.specs.declared.Family.TheVariants.{VertexColor}
@@ -45,20 +44,7 @@ corner_channel RightBottomGreen = 25
 corner_channel RightBottomBlue = 26
 corner_channel RightBottomAlpha = 27
 
--- the channel by name is the one by number: one test, computed at each of the sixteen
-by_number : ℕ → Bool
-by_number raw = eqb (corner_channel (corner_colour raw)) (12 + raw)
-
-pub corner_by_number : (raw : ℕ) → raw < pane_alpha → corner_channel (corner_colour raw) ≡ 12 + raw
-unfolding all_below by_number
-corner_by_number raw l = eqb-true (corner_channel (corner_colour raw)) (12 + raw) (all_at pane_alpha by_number raw refl l)
-
 -- ---- each raw number reaches the channel of its name
-
--- below PaneAlpha's: that of its corner colour
-pub corner_reached : (raw : ℕ) → raw < pane_alpha → pane_channel VertexColor raw ≡ found.At (corner_channel (corner_colour raw))
-unfolding pane_channel listed
-corner_reached raw l = rw (lt-ltb raw 17 (omega arith), ne_eqb raw pane_alpha (λ e. omega arith), corner_by_number raw l)
 
 -- PaneAlpha's: the pane's alpha
 pub alpha_reached : pane_channel VertexColor pane_alpha ≡ found.At alpha_channel

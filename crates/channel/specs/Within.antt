@@ -1,15 +1,15 @@
--- Every row that is reached is one of the book's, and every channel that is addressed one of the book's channels. Assumes nothing.
-use Rattle.std.specs.Prelude.{ℕ, ◌+◌, ◌*◌, ◌%◌, ◌<◌, List, Bool, true, false, cond, ◌||◌, ◌≡◌, refl, eqb, ltb}
+-- Every row that is reached is one of the book's, and every channel that a target addresses in a pane one of the pane's. Of materials and of the whole book
+-- that is shown in proofs/Inside. Assumes nothing.
+use Rattle.std.specs.Prelude.{ℕ, ◌+◌, ◌*◌, ◌<◌, List, Bool, true, false, cond, ◌||◌, ◌≡◌, refl, eqb, ltb}
 use Rattle.std.proofs.Common.{arith, ltb-true}
 use Rattle.std.proofs.lemmas.Bool.{eqb-false}
 use Rattle.laws.specs.declared.Found.{Found}
 use Rattle.laws.specs.declared.Found.TheVariants as found
 use Rattle.field.specs.Table.{found_within}
 use Rattle.sheet.specs.Sizes.{content_count, content_bytes, row_name, contents_at}
-use Rattle.sheet.specs.Rows.{content_row, target_row}
+use Rattle.sheet.specs.Rows.{content_row}
 use Rattle.book.specs.Sizes.{pane_count, material_count, pane_bytes, material_bytes, panes_at, materials_at}
-use Rattle.channel.specs.Channel.{colour_variants, listed, pane_channel, colour_place, material_channel, pane_channels, material_channels, channel_count, of_pane, of_material, as_pane, as_material, pane_named, material_named, content_reach, active_reach, in_pane, in_material, address, row_channel, target_channel}
-use Rattle.channel.specs.Slot.{slot_below}
+use Rattle.channel.specs.Channel.{listed, pane_channel, pane_channels, material_channels, channel_count, of_pane, of_material, as_pane, as_material, pane_named, material_named, content_reach, active_reach}
 use Rattle.channel.specs.declared.Family.{Family}
 use Rattle.channel.specs.declared.Family.TheVariants.{PaneSrt, Visibility, VertexColor, TextureSrt, TexturePattern, IndirectSrt, AlphaCompare, MaterialColor, Other}
 use Rattle.channel.specs.declared.Reached.{Reached}
@@ -29,13 +29,13 @@ listed_below n raw h = go (ltb raw n) refl
 pub record Below (o : Found) (n : ℕ) : Type 0 where
   pub below : (c : ℕ) → o ≡ found.At c → c < n
 
-at : (i n : ℕ) → i < n → Below (found.At i) n
+pub at : (i n : ℕ) → i < n → Below (found.At i) n
 at i n l = record { below = λ c e. let q : i ≡ c = cc in omega arith }
 
-nowhere : (n : ℕ) → Below found.Nothing n
+pub nowhere : (n : ℕ) → Below found.Nothing n
 nowhere n = record { below = λ c e. let z : ◌≡◌ {A = ℕ} 0 1 = cc in absurd (omega arith) }
 
-either : (b : Bool) (o p : Found) (n : ℕ) → (b ≡ true → Below o n) → (b ≡ false → Below p n) → Below (cond b o p) n
+pub either : (b : Bool) (o p : Found) (n : ℕ) → (b ≡ true → Below o n) → (b ≡ false → Below p n) → Below (cond b o p) n
 either true o p n h k = h refl
 either false o p n h k = k refl
 
@@ -51,27 +51,6 @@ pane_channel_below IndirectSrt raw = nowhere _
 pane_channel_below AlphaCompare raw = nowhere _
 pane_channel_below MaterialColor raw = nowhere _
 pane_channel_below Other raw = nowhere _
-
-pub colour_below : (i : ℕ) → colour_place i < 8
-unfolding colour_place
-colour_below i = go (ltb i 4) refl
-  where
-    go : (b : Bool) → ltb i 4 ≡ b → cond b i (4 + i % 4) < 8
-    go true e = omega (arith, ltb-true i 4 e)
-    go false e = omega arith
-
-pub material_channel_below : (f : Family) (raw layer : ℕ) → Below (material_channel f raw layer) material_channels
-unfolding material_channel
-material_channel_below PaneSrt raw layer = nowhere _
-material_channel_below Visibility raw layer = nowhere _
-material_channel_below VertexColor raw layer = nowhere _
-material_channel_below TextureSrt raw layer =
-    either (ltb layer 3) _ _ _ (λ e. at _ _ (omega (arith, ltb-true layer 3 e, listed_below 5 raw (omega arith)))) (λ e. nowhere _)
-material_channel_below TexturePattern raw layer = either (ltb layer 3) _ _ _ (λ e. at _ _ (slot_below layer (ltb-true layer 3 e))) (λ e. nowhere _)
-material_channel_below IndirectSrt raw layer = at _ _ (omega (arith, listed_below 3 raw (omega arith)))
-material_channel_below AlphaCompare raw layer = at _ _ (omega arith)
-material_channel_below MaterialColor raw layer = at _ _ (omega (arith, colour_below (listed colour_variants raw)))
-material_channel_below Other raw layer = nowhere _
 
 -- ---- rows of the book
 
@@ -135,21 +114,3 @@ pane_below b p c h k = omega arith
 pub material_below : (b : List ℕ) (m c : ℕ) → m < material_count b → c < material_channels → of_material b m c < channel_count b
 unfolding of_material channel_count
 material_below b m c h k = omega arith
-
-pub address_below : (b : List ℕ) (r : Reached) (f : Family) (raw layer : ℕ) → ReachedIn b r → Below (address b r f raw layer) (channel_count b)
-unfolding address
-address_below b (reached.Pane p) f raw layer h = go (pane_channel f raw) (pane_channel_below f raw)
-  where
-    go : (o : Found) → Below o pane_channels → Below (in_pane p o) (channel_count b)
-    go (found.At c) k = at _ _ (pane_below b p c (h.pane p refl) (k.below c refl))
-    go found.Nothing k = nowhere _
-address_below b (reached.Material m) f raw layer h = go (material_channel f raw layer) (material_channel_below f raw layer)
-  where
-    go : (o : Found) → Below o material_channels → Below (in_material b m o) (channel_count b)
-    go (found.At c) k = at _ _ (material_below b m c (h.material m refl) (k.below c refl))
-    go found.Nothing k = nowhere _
-address_below b reached.Nothing f raw layer h = nowhere _
-
-pub target_within : (s b : List ℕ) (a t c : ℕ) → target_channel s b a t ≡ found.At c → c < channel_count b
-unfolding target_channel row_channel
-target_within s b a t c e = (address_below b _ _ _ _ (active_in_lem s b a (target_row s t).content)).below c e

@@ -2,7 +2,7 @@
 ghost use Rattle.std.specs.Prelude.{◌≡◌, ◌<◌};
 ghost use Rattle.channel.specs.CornerColours.{pane_alpha, corner_colour, corner_channel};
 
-#[derive(Drop)]
+#[derive(Clone, Copy)]
 pub enum CornerColour {
     LeftTopRed,
     LeftTopGreen,

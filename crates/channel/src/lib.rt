@@ -1,4 +1,6 @@
 // Which channel of a book a target addresses (document 01, "Channels").
+#![tactic(auto)]
+
 mod address;
 mod corner_colours;
 mod place;
@@ -13,7 +15,7 @@ pub use place::{Place, hits, place_of};
 pub use reach::{Held, held_for, material_index, none_held, pane_index};
 
 // A target's family, by its four-letter code.
-#[derive(Drop)]
+#[derive(Clone, Copy)]
 pub enum Family {
     PaneSrt,
     Visibility,
@@ -27,7 +29,7 @@ pub enum Family {
 }
 
 // The row of the book that a content reaches.
-#[derive(Drop)]
+#[derive(Clone, Copy)]
 pub enum Reached {
     Pane(usize),
     Material(usize),

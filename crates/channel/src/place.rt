@@ -14,7 +14,7 @@ use laws::Found;
 use sheet::{CONTENT_BYTES, ROW_NAME, Target};
 
 // Where a channel stands: a pane's or a material's row, and its number there.
-#[derive(Drop)]
+#[derive(Clone, Copy)]
 pub enum Place {
     Pane(usize, usize),
     Material(usize, usize),

@@ -15,7 +15,7 @@ use laws::Found;
 use sheet::{CONTENT_BYTES, ROW_NAME};
 
 // A content, and the row that it reaches while an animation is active: contents of targets never fall, so each name is searched once.
-#[derive(Drop)]
+#[derive(Clone, Copy)]
 pub struct Held {
     pub content: usize,
     pub reached: Reached,

@@ -1,4 +1,6 @@
 // Makes a call and writes its answer behind what stands for the call: `ok` or `unchanged`, what was asked for, or why it is declined.
+#![tactic(auto)]
+
 mod edited;
 
 ghost use Rattle.sheet.specs.Checked.{Checked};
@@ -12,7 +14,7 @@ use menu::{Edited, Played};
 use player::{Player, Tick};
 
 // The player after a call, and the output with its answer.
-#[derive(Drop)]
+#[derive(Clone, Copy)]
 pub struct Answered {
     pub out: Out,
     pub player: Player,

@@ -1,4 +1,6 @@
 // A line of a list of calls, its comment taken off: a verb, its whole numbers or names, its numbers. What can't be read is told by the place of the word and what is wrong with it.
+#![tactic(auto)]
+
 mod argument;
 mod named;
 mod verb;
@@ -29,7 +31,7 @@ pub const TOO_MANY: u8 = 5;
 pub const NO_NAME: u8 = 6;
 
 // A call with its arguments, 0 where it takes fewer; or, where fault is not 0, which word is wrong.
-#[derive(Drop)]
+#[derive(Clone, Copy)]
 pub struct Call {
     pub verb: u8,
     pub first: u16,

@@ -53,7 +53,7 @@ pub const ABANDON: u8 = 22;
 pub const NO_VERB: u8 = 23;
 
 // A verb's arguments begin at word `from`: so many whole numbers, then so many numbers.
-#[derive(Drop)]
+#[derive(Clone, Copy)]
 pub struct Verb {
     pub code: u8,
     pub from: usize,

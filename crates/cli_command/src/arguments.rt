@@ -3,6 +3,8 @@ ghost use Rattle.std.specs.Prelude.{◌≤◌, length};
 ghost use Rattle.io.specs.Counts.{IsPrefixLen};
 
 use cli_words::{piece, pieces, same};
+use std::env::FillError;
+use std::rt::Env;
 
 const MINUS: u8 = 45;
 
@@ -107,15 +109,24 @@ pub fn argument_count(line: &[u8]) -> usize {
     seen
 }
 
+// How many arguments there are, the program's own name among them.
+fn arg_count(rt: HostRuntime) -> usize {
+    for i in 0..usize::MAX {
+        if let Err(FillError::NotPresent) = rt.arg(i, &mut []) {
+            return i;
+        }
+    }
+    usize::MAX
+}
+
 // Puts argument i and a zero byte at a place, and answers the next, or the length where there is no room.
-fn put(out: &mut [u8], at: usize, i: usize) -> usize
+fn put(rt: HostRuntime, out: &mut [u8], at: usize, i: usize) -> usize
     requires { at ≤ length out.old }
     ensures { result ≤ length out.old }
 {
-    let n = os::arg(i, &mut out[at..]);
-    if os::errno() != 0 {
+    let Ok(n) = rt.arg(i, &mut out[at..]) else {
         return out.len();
-    }
+    };
     let end = at + n;
     if end < out.len() {
         out[end] = 0;
@@ -125,14 +136,14 @@ fn put(out: &mut [u8], at: usize, i: usize) -> usize
 }
 
 // The arguments from number `first` on; the length of out where there is no room for them.
-pub fn join(out: &mut [u8], first: usize) -> usize
+pub fn join(rt: HostRuntime, out: &mut [u8], first: usize) -> usize
     ensures { IsPrefixLen result out.new }
 {
-    let count = os::arg_count();
+    let count = arg_count(rt);
     let mut at = 0;
     let mut i = first;
     while i < count {
-        at = put(out, at, i);
+        at = put(rt, out, at, i);
         i += 1;
     }
     at

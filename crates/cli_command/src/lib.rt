@@ -1,4 +1,6 @@
 // A command line: its words and options, the files that it names, its whole numbers, and what is said where it is wrong.
+#![tactic(auto)]
+
 mod arguments;
 mod errors;
 mod file;

@@ -7,14 +7,14 @@ use cli_page::{Out, PAGE, bytes, word};
 use cli_words::TOO_LARGE;
 
 // A whole number, and 2^24 where there is none, which is told.
-#[derive(Drop)]
+#[derive(Clone, Copy)]
 pub struct Whole {
     pub out: Out,
     pub n: u64,
 }
 
 // The frames from `from` up to `end`, which is not one of them; `bad` where what was asked for is wrong, which is told.
-#[derive(Drop)]
+#[derive(Clone, Copy)]
 pub struct Span {
     pub out: Out,
     pub bad: bool,

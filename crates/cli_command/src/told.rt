@@ -2,7 +2,16 @@
 ghost use Rattle.std.specs.Prelude.{◌<◌};
 
 use cli_page::Out;
-use libc::STDERR_FILENO;
+use std::io::{Print, Result};
+
+fn say_done(o: Out, done: u64, total: u64, things: &[u8]) -> Result<()> {
+    let to = o.rt.stderr();
+    to.print(format_args!("\r{done}"))?;
+    if total > 0 {
+        to.print(format_args!(" of {total}"))?;
+    }
+    to.write_all(things)
+}
 
 // `N of TOTAL things`, over what stood there before, each time `every` more are done. A total of 0 is not known.
 pub fn progress(o: Out, done: u64, total: u64, every: u64, things: &[u8])
@@ -14,18 +23,12 @@ pub fn progress(o: Out, done: u64, total: u64, every: u64, things: &[u8])
     if done % every != 0 {
         return;
     }
-    io::write_all(STDERR_FILENO, b"\r");
-    io::print_decimal(STDERR_FILENO, done);
-    if total > 0 {
-        io::write_all(STDERR_FILENO, b" of ");
-        io::print_decimal(STDERR_FILENO, total);
-    }
-    io::write_all(STDERR_FILENO, things);
+    let _ = say_done(o, done, total, things);
 }
 
 // The last of it stays, on a line of its own.
 pub fn progress_end(o: Out, done: u64, every: u64) {
     if o.told & (done >= every) {
-        io::write_all(STDERR_FILENO, b"\n");
+        let _ = o.rt.stderr().write_all(b"\n");
     }
 }

@@ -84,7 +84,7 @@ pub fn say_book(o: Out, page: &mut [u8; PAGE], path: &[u8], b: &[u8]) -> Out {
 // Warnings where the file that was named before the book is a sheet.
 fn held_against(o: Out, page: &mut [u8; PAGE], before: &[u8], b: &[u8]) -> Out {
     let mut bytes = [0u8; LONGEST];
-    let n = try_read(before, &mut bytes).n;
+    let n = try_read(o.rt, before, &mut bytes).n;
     warnings(o, page, before, &bytes[..n], b)
 }
 

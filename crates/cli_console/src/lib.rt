@@ -1,4 +1,6 @@
 // The commands of the command line. A command line is a text of words, each ended by a zero byte.
+#![tactic(auto)]
+
 mod check;
 mod edits;
 mod frames;
@@ -11,9 +13,10 @@ use cli_command::{argument, has_option, word_error};
 use cli_page::{Out, PAGE};
 use cli_words::same;
 pub use program::start;
+use std::io::Read;
 
-// One command that has a name.
-fn command(o: Out, page: &mut [u8; PAGE], line: &[u8]) -> Out {
+// One command that has a name. `from` is standard input, or what stands in its place.
+fn command<R: Read>(from: &mut R, o: Out, page: &mut [u8; PAGE], line: &[u8]) -> Out {
     let name = argument(line, 0);
     if same(name, b"check") {
         return check::check(o, page, line);
@@ -22,13 +25,13 @@ fn command(o: Out, page: &mut [u8; PAGE], line: &[u8]) -> Out {
         return info::info(o, page, line);
     }
     if same(name, b"frames") {
-        return open::open(o, page, line, false);
+        return open::open(from, o, page, line, false);
     }
     if same(name, b"reach") {
         return edits::reach(o, page, line);
     }
     if same(name, b"replay") {
-        return open::open(o, page, line, true);
+        return open::open(from, o, page, line, true);
     }
     word_error(o, page, name, b"is no command; menu_cli help lists them")
 }
@@ -42,7 +45,7 @@ fn help(o: Out, page: &mut [u8; PAGE], line: &[u8]) -> Out {
 }
 
 // What is asked for before any command: help, the version.
-fn asked(o: Out, page: &mut [u8; PAGE], line: &[u8]) -> Out {
+fn asked<R: Read>(from: &mut R, o: Out, page: &mut [u8; PAGE], line: &[u8]) -> Out {
     let name = argument(line, 0);
     if same(name, b"help") | has_option(line, b"--help") | has_option(line, b"-h") {
         return help(o, page, line);
@@ -53,10 +56,10 @@ fn asked(o: Out, page: &mut [u8; PAGE], line: &[u8]) -> Out {
     if name.len() == 0 {
         return cli_command::missing(o, page, b"the command");
     }
-    command(o, page, line)
+    command(from, o, page, line)
 }
 
-fn checked(o: Out, page: &mut [u8; PAGE], line: &[u8]) -> Out {
+fn checked<R: Read>(from: &mut R, o: Out, page: &mut [u8; PAGE], line: &[u8]) -> Out {
     if cli_command::has_empty(line) {
         return word_error(o, page, b"\"\"", b"is an empty word");
     }
@@ -64,11 +67,11 @@ fn checked(o: Out, page: &mut [u8; PAGE], line: &[u8]) -> Out {
     if unknown.len() > 0 {
         return word_error(o, page, unknown, b"is no option; menu_cli help lists them");
     }
-    asked(o, page, line)
+    asked(from, o, page, line)
 }
 
-// One command line. What it came to is the output's status.
-pub fn run(o: Out, page: &mut [u8; PAGE], line: &[u8]) -> Out {
+// One command line. What it came to is the output's status. The calls of `replay` are read from `from`.
+pub fn run<R: Read>(from: &mut R, o: Out, page: &mut [u8; PAGE], line: &[u8]) -> Out {
     let json = has_option(line, b"--json");
-    checked(Out { json, ..o }, page, line)
+    checked(from, Out { json, ..o }, page, line)
 }

@@ -8,6 +8,7 @@ use crate::frames::frames_of;
 use crate::replay::replay;
 use cli_command::{LONGEST, argument, missing, read, too_many};
 use cli_page::{Out, PAGE};
+use std::io::Read;
 
 // How many keys a sheet has, and 0 where it is none: loading then says so.
 fn key_room(s: &[u8]) -> usize
@@ -37,7 +38,8 @@ pub fn load_refusal(s: &[u8]) -> u8 {
 }
 
 // Loads the keys and goes on with the command.
-fn with_keys<'a>(
+fn with_keys<'a, R: Read>(
+    from: &mut R,
     o: Out,
     page: &mut [u8; PAGE],
     line: &[u8],
@@ -56,13 +58,14 @@ fn with_keys<'a>(
     }
     let p = loaded.player;
     if replaying {
-        return replay(o, page, p, s, b, frames, values, slopes);
+        return replay(from, o, page, p, s, b, frames, values, slopes);
     }
     frames_of(o, page, line, p, s, b, frames, values, slopes)
 }
 
 // Key arrays as long as the sheet has keys.
-fn with_room<'a>(
+fn with_room<'a, R: Read>(
+    from: &mut R,
     o: Out,
     page: &mut [u8; PAGE],
     line: &[u8],
@@ -77,6 +80,7 @@ fn with_room<'a>(
 {
     let n = sheet::key_count(s);
     with_keys(
+        from,
         o,
         page,
         line,
@@ -89,7 +93,8 @@ fn with_room<'a>(
     )
 }
 
-fn with_bytes<'a>(
+fn with_bytes<'a, R: Read>(
+    from: &mut R,
     o: Out,
     page: &mut [u8; PAGE],
     line: &[u8],
@@ -107,6 +112,7 @@ fn with_bytes<'a>(
     let mut values = [0.0f32; 2048];
     let mut slopes = [0.0f32; 2048];
     with_room(
+        from,
         o,
         page,
         line,
@@ -120,7 +126,13 @@ fn with_bytes<'a>(
 }
 
 // Both files read.
-fn with_files(o: Out, page: &mut [u8; PAGE], line: &[u8], replaying: bool) -> Out {
+fn with_files<R: Read>(
+    from: &mut R,
+    o: Out,
+    page: &mut [u8; PAGE],
+    line: &[u8],
+    replaying: bool,
+) -> Out {
     let mut sheet = [0u8; LONGEST];
     let first = read(o, page, argument(line, 1), &mut sheet);
     let n = first.n;
@@ -133,11 +145,25 @@ fn with_files(o: Out, page: &mut [u8; PAGE], line: &[u8], replaying: bool) -> Ou
     if m == 0 {
         return second.out;
     }
-    with_bytes(second.out, page, line, replaying, &sheet[..n], &book[..m])
+    with_bytes(
+        from,
+        second.out,
+        page,
+        line,
+        replaying,
+        &sheet[..n],
+        &book[..m],
+    )
 }
 
 // The command, from its files on.
-pub fn open(o: Out, page: &mut [u8; PAGE], line: &[u8], replaying: bool) -> Out {
+pub fn open<R: Read>(
+    from: &mut R,
+    o: Out,
+    page: &mut [u8; PAGE],
+    line: &[u8],
+    replaying: bool,
+) -> Out {
     if argument(line, 1).len() == 0 {
         return missing(o, page, b"SHEET");
     }
@@ -149,5 +175,5 @@ pub fn open(o: Out, page: &mut [u8; PAGE], line: &[u8], replaying: bool) -> Out 
     if more.len() > 0 {
         return too_many(o, page, more);
     }
-    with_files(o, page, line, replaying)
+    with_files(from, o, page, line, replaying)
 }

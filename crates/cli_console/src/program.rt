@@ -1,32 +1,21 @@
 // The whole program: its arguments, its output, and what it came to.
 use cli_page::{Out, PAGE, WRONG};
-use cli_words::same;
-use libc::{STDERR_FILENO, STDOUT_FILENO};
+use std::io::{IsTerminal, Print};
 
-// A program of Rattle has no exit status. Its starter opens this descriptor and says so by the first argument; what is written there is the status.
-const STATUS_FILENO: i32 = 3;
+// C's EBADF: there is no open file of that number.
+const NO_FILE: i32 = 9;
 
-fn is_asked(word: &[u8]) -> bool {
-    same(word, b"--status-to-3")
+// Whether standard output is open: a write of nothing fails where it is not.
+fn is_open<P: Print>(to: &P) -> bool {
+    match to.write_some(b"") {
+        Ok(_) => true,
+        Err(e) => e.raw_os_error() != Some(NO_FILE),
+    }
 }
 
-// Whether the first argument asks for the status.
-fn asks_status() -> bool {
-    let mut word = [0u8; 32];
-    let n = os::arg(1, &mut word);
-    is_asked(&word[..n])
-}
-
-fn tell_status(status: u8) {
-    if status == 0 {
-        io::write_all(STATUS_FILENO, b"0");
-        return;
-    }
-    if status == 1 {
-        io::write_all(STATUS_FILENO, b"1");
-        return;
-    }
-    io::write_all(STATUS_FILENO, b"2");
+// What is said where nothing can be answered: it goes straight to standard error.
+fn complain(rt: HostRuntime, text: &[u8]) {
+    let _ = rt.stderr().write_all(text);
 }
 
 // What is on the page goes out. Output that was lost is no success.
@@ -35,45 +24,43 @@ fn finish(o: Out, page: &mut [u8; PAGE]) -> u8 {
     if !p.lost {
         return p.status;
     }
-    io::write_all(
-        STDERR_FILENO,
-        b"error: standard output: cannot be written whole\n",
-    );
+    complain(o.rt, b"error: standard output: cannot be written whole\n");
     WRONG
 }
 
 // Progress is for someone who looks on, and not in the midst of the output.
-fn shows_progress(line: &[u8]) -> bool {
+fn shows_progress(rt: HostRuntime, line: &[u8]) -> bool {
     if cli_command::has_option(line, b"--quiet") {
         return false;
     }
-    (libc::isatty(STDERR_FILENO) == 1) & (libc::isatty(STDOUT_FILENO) != 1)
+    rt.stderr().is_terminal() & !rt.stdout().is_terminal()
 }
 
-fn run_line(page: &mut [u8; PAGE], line: &[u8]) -> u8 {
-    let o = cli_page::fresh(false, true, shows_progress(line));
-    finish(crate::run(o, page, line), page)
+fn run_line(rt: HostRuntime, page: &mut [u8; PAGE], line: &[u8]) -> u8 {
+    let o = cli_page::fresh(rt, false, true, shows_progress(rt, line));
+    finish(crate::run(&mut rt.stdin(), o, page, line), page)
 }
 
-fn run_arguments(first: usize) -> u8 {
+fn run_arguments(rt: HostRuntime) -> u8 {
     let mut page = [0u8; PAGE];
     let mut line = [0u8; 65536];
-    let n = cli_command::join(&mut line, first);
+    let n = cli_command::join(rt, &mut line, 1);
     if n == 65536 {
-        io::write_all(
-            STDERR_FILENO,
+        complain(
+            rt,
             b"error: the arguments are longer than 65,535 bytes together\n",
         );
         return WRONG;
     }
-    run_line(&mut page, &line[..n])
+    run_line(rt, &mut page, &line[..n])
 }
 
-// The command that the arguments are.
-pub fn start() {
-    if asks_status() {
-        tell_status(run_arguments(2));
-        return;
+// The command that the arguments are, and what it came to: the program's exit status. With no standard output nothing is done, since the first file that is
+// opened would stand in its place.
+pub fn start(rt: HostRuntime) -> u8 {
+    if !is_open(&rt.stdout()) {
+        complain(rt, b"error: standard output: is closed\n");
+        return WRONG;
     }
-    run_arguments(1);
+    run_arguments(rt)
 }

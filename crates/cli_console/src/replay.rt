@@ -8,6 +8,7 @@ use cli_calls::Call;
 use cli_command::progress;
 use cli_page::{Out, PAGE, WRONG, count, word};
 use player::Player;
+use std::io::Read;
 
 // Progress is told each time this many lines are done.
 const EVERY: u64 = 1000;
@@ -224,8 +225,9 @@ fn ended(o: Out, page: &mut [u8; PAGE], unread: bool) -> Out {
     o
 }
 
-// Every line of standard input, with room for a piece and a line of it.
-fn replay_in<'a>(
+// Every line of standard input, or of what stands in its place, with room for a piece and a line of it.
+fn replay_in<'a, R: Read>(
+    from: &mut R,
     o: Out,
     page: &mut [u8; PAGE],
     fresh: Player,
@@ -247,7 +249,7 @@ fn replay_in<'a>(
     let mut number = 0u64;
     while i.left > 0 {
         let out = told(a.out, page, piece, i.at, i.filled);
-        i = cli_input::next_line(piece, line, i);
+        i = cli_input::next_line(from, piece, line, i);
         number = std::num::wrapping_add_u64(number, 1);
         a = answer_room(
             out, page, a.player, s, b, frames, values, slopes, line, i.length, i.long, number,
@@ -259,7 +261,8 @@ fn replay_in<'a>(
 }
 
 // The calls of standard input, from a player that the sheet was loaded with.
-pub fn replay<'a>(
+pub fn replay<'a, R: Read>(
+    from: &mut R,
     o: Out,
     page: &mut [u8; PAGE],
     fresh: Player,
@@ -274,6 +277,6 @@ pub fn replay<'a>(
     let mut piece = [0u8; 65536];
     let mut line = [0u8; 255];
     replay_in(
-        o, page, fresh, s, b, frames, values, slopes, &mut piece, &mut line,
+        from, o, page, fresh, s, b, frames, values, slopes, &mut piece, &mut line,
     )
 }

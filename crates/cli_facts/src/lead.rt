@@ -2,7 +2,7 @@
 use cli_page::{Out, PAGE, count};
 
 // The frame that shows it, or the line of the call that asked for it.
-#[derive(Drop)]
+#[derive(Clone, Copy)]
 pub enum Lead {
     Frame(u64),
     Line(u64),

@@ -1,4 +1,6 @@
 // What a player shows, one line a fact: the overridden channels and the cascade over the panes.
+#![tactic(auto)]
+
 mod cascade;
 mod lead;
 mod readings;

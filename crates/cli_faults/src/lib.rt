@@ -1,4 +1,6 @@
 // A broken rule in words: which part, row and field, at which byte, what is there and what may be.
+#![tactic(auto)]
+
 mod asked;
 mod parts;
 

@@ -1,4 +1,6 @@
 // What is in a sheet and a book, one line a fact, for whoever has to find a track by what it moves.
+#![tactic(auto)]
+
 mod book_rows;
 mod contents;
 mod sheet_rows;

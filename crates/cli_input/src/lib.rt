@@ -1,15 +1,17 @@
 // Standard input, line by line: read in pieces, so that an input of any length works. A line longer than its room is read to its end and told.
+#![tactic(auto)]
+
 ghost use Rattle.std.specs.Prelude.{◌≡◌, ◌<◌, ◌≤◌, length};
 ghost use Rattle.cli_input.specs.Held.{Held};
 
-use libc::STDIN_FILENO;
+use std::io::Read;
 
 const LINE_END: u8 = 10;
 
 // The bytes of a piece from `at` to `filled` are unread. `left` bytes may still come: a proved loop has to end, and nothing says that an input does,
 // so it begins with a number that no run uses up, and is 0 once the input has ended. `length` bytes of the line are there; `long` says that it has more.
 // `unread`: the input ended because it can't be read.
-#[derive(Drop)]
+#[derive(Clone, Copy)]
 pub struct Input {
     pub at: usize,
     pub filled: usize,
@@ -33,20 +35,26 @@ pub fn fresh() -> Input
 }
 
 // The same with the next piece where this one is read.
-fn refilled(piece: &mut [u8], i: Input, room: usize) -> Input
+fn refilled<R: Read>(from: &mut R, piece: &mut [u8], i: Input, room: usize) -> Input
     requires { Held i (length piece.old) room }
     ensures { Held result (length piece.old) room × (result.left ≡ i.left) }
 {
     if i.at < i.filled {
         return i;
     }
-    let got = libc::read(STDIN_FILENO, piece);
-    let filled = io::count(got, piece);
-    Input {
-        at: 0,
-        filled,
-        unread: got < 0,
-        ..i
+    match from.read(piece) {
+        Ok(filled) => Input {
+            at: 0,
+            filled,
+            unread: false,
+            ..i
+        },
+        Err(_) => Input {
+            at: 0,
+            filled: 0,
+            unread: true,
+            ..i
+        },
     }
 }
 
@@ -64,7 +72,7 @@ fn stored(line: &mut [u8], i: Input, piece: usize, b: u8) -> Input
 }
 
 // The next line, without its end.
-pub fn next_line(piece: &mut [u8], line: &mut [u8], before: Input) -> Input
+pub fn next_line<R: Read>(from: &mut R, piece: &mut [u8], line: &mut [u8], before: Input) -> Input
     requires { Held before (length piece.old) (length line.old) × (0 < before.left) }
     ensures { Held result (length piece.old) (length line.old) × (result.left < before.left) }
 {
@@ -74,7 +82,7 @@ pub fn next_line(piece: &mut [u8], line: &mut [u8], before: Input) -> Input
         ..before
     };
     while i.left > 0 {
-        i = refilled(piece, i, line.len());
+        i = refilled(from, piece, i, line.len());
         let at = i.at;
         if at >= i.filled {
             return Input { left: 0, ..i };

@@ -2,7 +2,7 @@
 // The number of bytes on the page is a u16 and the page has 65,536, so that a place on it needs no proof.
 ghost use Rattle.std.specs.Prelude.{◌≡◌, ◌++◌, ◌<◌, ◌+◌, length, take, drop};
 
-use libc::{STDERR_FILENO, STDOUT_FILENO};
+use std::io::Print;
 
 pub const PAGE: usize = 65536;
 
@@ -15,9 +15,10 @@ pub const DECLINED: u8 = 1;
 pub const WRONG: u8 = 2;
 
 // `at` bytes of the page are not written yet. `lost`: a write failed. `json`: lines are JSON objects; `bare`: the object has no member yet.
-// `aside`: an error that ends a command goes to standard error. `told`: progress is shown.
-#[derive(Drop)]
+// `aside`: an error that ends a command goes to standard error. `told`: progress is shown. `rt`: by it what has an `Out` writes, and opens files.
+#[derive(Clone, Copy)]
 pub struct Out {
+    pub rt: HostRuntime,
     pub at: u16,
     pub lost: bool,
     pub json: bool,
@@ -27,8 +28,9 @@ pub struct Out {
     pub told: bool,
 }
 
-pub fn fresh(json: bool, aside: bool, told: bool) -> Out {
+pub fn fresh(rt: HostRuntime, json: bool, aside: bool, told: bool) -> Out {
     Out {
+        rt,
         at: 0,
         lost: false,
         json,
@@ -47,18 +49,19 @@ pub fn came_to(o: Out, status: u8) -> Out {
     o
 }
 
-fn write(o: Out, page: &[u8], fd: i32) -> Out
+// What is on the page goes to a stream.
+fn write<P: Print>(o: Out, page: &[u8], to: &P) -> Out
     requires { 65536 ≡ length page.now }
     ensures { result.at ≡ 0 }
 {
     let n = o.at as usize;
-    if io::write_all(fd, &page[..n]) {
-        return Out { at: 0, ..o };
-    }
-    Out {
-        at: 0,
-        lost: true,
-        ..o
+    match to.write_all(&page[..n]) {
+        Ok(()) => Out { at: 0, ..o },
+        Err(_) => Out {
+            at: 0,
+            lost: true,
+            ..o
+        },
     }
 }
 
@@ -66,22 +69,23 @@ fn write(o: Out, page: &[u8], fd: i32) -> Out
 pub fn flush(o: Out, page: &mut [u8; PAGE]) -> Out
     ensures { result.at ≡ 0 }
 {
-    write(o, page, STDOUT_FILENO)
+    write(o, page, &o.rt.stdout())
 }
 
 // What is on the page is an error, and goes where errors go.
 pub fn flush_error(o: Out, page: &mut [u8; PAGE]) -> Out {
     if o.aside & !o.json {
-        return write(o, page, STDERR_FILENO);
+        return write(o, page, &o.rt.stderr());
     }
-    write(o, page, STDOUT_FILENO)
+    write(o, page, &o.rt.stdout())
 }
 
 fn put_in(at: usize, page: &mut [u8], text: &[u8])
     requires { at + length text.now < length page.old }
     ensures { page.new ≡ take at page.old ++ (text.now ++ drop (at + length text.now) page.old) }
 {
-    bytes::copy(text, &mut page[at..]);
+    let end = at + text.len();
+    page[at..end].copy_from_slice(text);
 }
 
 // The text behind what is on the page, which has room.
@@ -107,8 +111,8 @@ pub fn say(o: Out, page: &mut [u8; PAGE], text: &[u8]) -> Out {
     if n < PAGE {
         return put(p, page, text);
     }
-    if io::write_all(STDOUT_FILENO, text) {
-        return p;
+    match p.rt.stdout().write_all(text) {
+        Ok(()) => p,
+        Err(_) => Out { lost: true, ..p },
     }
-    Out { lost: true, ..p }
 }

@@ -1,4 +1,6 @@
 // What the command line writes, each as text and as a member of a JSON object: names, channels, refusals in words.
+#![tactic(auto)]
+
 mod channel;
 mod names;
 mod refusals;

@@ -3,7 +3,7 @@ ghost use Rattle.std.specs.Prelude.{◌≡◌, ◌<◌, length};
 ghost use Rattle.sheet.specs.Sizes.{animation_count};
 ghost use Rattle.book.specs.Sizes.{pane_count};
 ghost use Rattle.channel.specs.Channel.{channel_count};
-ghost use Rattle.edit.specs.Keys.{lent};
+ghost use Rattle.edit.specs.Keys.{keys};
 ghost use Rattle.reach.specs.Ready.{ComparedIn};
 
 use crate::follows::say_follows;
@@ -45,7 +45,7 @@ fn mark_animation(
     all_channels: &mut [u8],
     all_panes: &mut [u8],
 )
-    requires compared_in { ComparedIn s.now b.now (lent frames values slopes) (lent new_frames new_values new_slopes) }
+    requires compared_in { ComparedIn s.now b.now (keys frames.now values.now slopes.now) (keys new_frames.now new_values.now new_slopes.now) }
     requires channels_len { (length channels.old ≡ channel_count b.now) × (length panes.old ≡ pane_count b.now) }
 {
     reach::touched_channels(
@@ -74,7 +74,7 @@ fn say_animation(
     all_channels: &mut [u8],
     all_panes: &mut [u8],
 ) -> Out
-    requires compared_in { ComparedIn s.now b.now (lent frames values slopes) (lent new_frames new_values new_slopes) × (a < animation_count s.now) }
+    requires compared_in { ComparedIn s.now b.now (keys frames.now values.now slopes.now) (keys new_frames.now new_values.now new_slopes.now) × (a < animation_count s.now) }
     requires channels_len { (length channels.old ≡ channel_count b.now) × (length panes.old ≡ pane_count b.now) }
 {
     mark_animation(
@@ -117,7 +117,7 @@ pub fn say_animations(
     all_channels: &mut [u8],
     all_panes: &mut [u8],
 ) -> Out
-    requires compared_in { ComparedIn s.now b.now (lent frames values slopes) (lent new_frames new_values new_slopes) }
+    requires compared_in { ComparedIn s.now b.now (keys frames.now values.now slopes.now) (keys new_frames.now new_values.now new_slopes.now) }
     requires channels_len { (length channels.old ≡ channel_count b.now) × (length panes.old ≡ pane_count b.now) }
 {
     let n = sheet::animation_count(s);

@@ -9,7 +9,7 @@ use reading::{Reading, row_reading};
 use sheet::Target;
 
 // The largest change so far, and the frame of it.
-#[derive(Drop)]
+#[derive(Clone, Copy)]
 pub struct Peak {
     pub at: u64,
     pub change: f32,
@@ -17,7 +17,7 @@ pub struct Peak {
     pub after: Reading,
 }
 
-#[derive(Drop)]
+#[derive(Clone, Copy)]
 pub struct Changes {
     pub runs: Runs,
     pub peak: Peak,

@@ -4,7 +4,7 @@ ghost use Rattle.sheet.specs.Checked.{Checked};
 ghost use Rattle.book.specs.Checked.{CheckedBook};
 ghost use Rattle.book.specs.Sizes.{pane_count};
 ghost use Rattle.channel.specs.Channel.{channel_count};
-ghost use Rattle.edit.specs.Keys.{lent};
+ghost use Rattle.edit.specs.Keys.{keys};
 ghost use Rattle.reach.specs.Ready.{ComparedIn};
 
 use crate::animation::say_animations;
@@ -29,7 +29,7 @@ fn with_marks(
     all_channels: &mut [u8],
     all_panes: &mut [u8],
 ) -> Out
-    requires compared_in { ComparedIn s.now b.now (lent frames values slopes) (lent new_frames new_values new_slopes) }
+    requires compared_in { ComparedIn s.now b.now (keys frames.now values.now slopes.now) (keys new_frames.now new_values.now new_slopes.now) }
     requires channels_len { (length channels.old ≡ channel_count b.now) × (length panes.old ≡ pane_count b.now) }
 {
     let p = say_animations(
@@ -80,7 +80,7 @@ fn with_mark_room(
     all_channels: &mut [u8],
     all_panes: &mut [u8],
 ) -> Out
-    requires compared_in { ComparedIn s.now b.now (lent frames values slopes) (lent new_frames new_values new_slopes) }
+    requires compared_in { ComparedIn s.now b.now (keys frames.now values.now slopes.now) (keys new_frames.now new_values.now new_slopes.now) }
     requires in_bounds { (2752 ≤ length channels.old) × (64 ≤ length panes.old) }
 {
     let n = channel::channel_count(b);
@@ -115,7 +115,7 @@ fn compared(
     new_values: &[f32],
     new_slopes: &[f32],
 ) -> Out
-    requires { ComparedIn s.now b.now (lent frames values slopes) (lent new_frames new_values new_slopes) }
+    requires { ComparedIn s.now b.now (keys frames.now values.now slopes.now) (keys new_frames.now new_values.now new_slopes.now) }
 {
     let mut channels = [0u8; 2752];
     let mut panes = [0u8; 64];

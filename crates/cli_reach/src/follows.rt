@@ -5,7 +5,7 @@ ghost use Rattle.sheet.specs.Sizes.{animation_count};
 ghost use Rattle.book.specs.Sizes.{pane_count};
 ghost use Rattle.book.specs.Checked.{CheckedBook};
 ghost use Rattle.reading.specs.Ready.{Ready};
-ghost use Rattle.edit.specs.Keys.{lent};
+ghost use Rattle.edit.specs.Keys.{keys};
 ghost use Rattle.reach.specs.Ready.{ComparedIn};
 
 use crate::runs::{Runs, begin_runs, end_runs, next_frame};
@@ -112,7 +112,7 @@ fn bits_at(
     f: u32,
     from: usize,
 ) -> u32
-    requires { ComparedIn s.now b.now (lent frames values slopes) (lent new_frames new_values new_slopes) × (from ≤ 32) }
+    requires { ComparedIn s.now b.now (keys frames.now values.now slopes.now) (keys new_frames.now new_values.now new_slopes.now) × (from ≤ 32) }
 {
     let x = std::num::nearest_u32_to_f32(f);
     let mut visible = [0u8; 64];
@@ -163,7 +163,7 @@ fn fill(
     end: u32,
     bits: &mut [u32],
 )
-    requires { ComparedIn s.now b.now (lent frames values slopes) (lent new_frames new_values new_slopes) × ((from ≤ 32) × (end ≤ length bits.old)) }
+    requires { ComparedIn s.now b.now (keys frames.now values.now slopes.now) (keys new_frames.now new_values.now new_slopes.now) × ((from ≤ 32) × (end ≤ length bits.old)) }
 {
     let mut f = 0u32;
     while f < end {
@@ -260,7 +260,7 @@ fn say_group(
     from: usize,
     to: usize,
 ) -> Out
-    requires { (ComparedIn s.now b.now (lent frames values slopes) (lent new_frames new_values new_slopes) × (a < animation_count s.now)) × ((from ≤ 32) × ((to ≤ pane_count b.now) × (to ≤ from + 32))) }
+    requires { (ComparedIn s.now b.now (keys frames.now values.now slopes.now) (keys new_frames.now new_values.now new_slopes.now) × (a < animation_count s.now)) × ((from ≤ 32) × ((to ≤ pane_count b.now) × (to ≤ from + 32))) }
 {
     if !any_following(marks, from, to) {
         return o;
@@ -295,7 +295,7 @@ pub fn say_follows(
     a: usize,
     marks: &[u8],
 ) -> Out
-    requires { ComparedIn s.now b.now (lent frames values slopes) (lent new_frames new_values new_slopes) × (a < animation_count s.now) }
+    requires { ComparedIn s.now b.now (keys frames.now values.now slopes.now) (keys new_frames.now new_values.now new_slopes.now) × (a < animation_count s.now) }
 {
     let n = book::pane_count(b);
     let first = least(n, GROUP);

@@ -1,5 +1,7 @@
 // What the edits between two sheets reach, one line a fact: each edited track with the frames at which its channel reads differently, the panes that
 // follow, then every pane and material touched or untouched.
+#![tactic(auto)]
+
 mod animation;
 mod changes;
 mod command;

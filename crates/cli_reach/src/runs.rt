@@ -2,7 +2,7 @@
 use cli_page::{Out, PAGE, say};
 
 // `some`: a run was written; `open`: the frames from `from` to `last` are a run that may go on.
-#[derive(Drop)]
+#[derive(Clone, Copy)]
 pub struct Runs {
     pub out: Out,
     pub some: bool,

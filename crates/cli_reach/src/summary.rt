@@ -2,7 +2,7 @@
 ghost use Rattle.std.specs.Prelude.{◌<◌, ◌≤◌, length};
 ghost use Rattle.book.specs.Sizes.{pane_count, material_count};
 ghost use Rattle.book.specs.Checked.{CheckedBook};
-ghost use Rattle.edit.specs.Keys.{lent};
+ghost use Rattle.edit.specs.Keys.{keys};
 ghost use Rattle.reach.specs.Ready.{Compared, ComparedIn};
 
 use cli_page::{Out, PAGE, begin, count, end, flag, lead};
@@ -134,7 +134,7 @@ fn edited_tracks(
     new_values: &[f32],
     new_slopes: &[f32],
 ) -> u64
-    requires { Compared s.now (lent frames values slopes) (lent new_frames new_values new_slopes) }
+    requires { Compared s.now (keys frames.now values.now slopes.now) (keys new_frames.now new_values.now new_slopes.now) }
 {
     let count = sheet::target_count(s);
     let mut n = 0u64;
@@ -197,7 +197,7 @@ fn say_edits(
     new_values: &[f32],
     new_slopes: &[f32],
 ) -> Out
-    requires { Compared s.now (lent frames values slopes) (lent new_frames new_values new_slopes) }
+    requires { Compared s.now (keys frames.now values.now slopes.now) (keys new_frames.now new_values.now new_slopes.now) }
 {
     let tracks = edited_tracks(
         s, frames, values, slopes, new_frames, new_values, new_slopes,
@@ -243,7 +243,7 @@ pub fn say_summary(
     channels: &[u8],
     panes: &[u8],
 ) -> Out
-    requires { ComparedIn s.now b.now (lent frames values slopes) (lent new_frames new_values new_slopes) }
+    requires { ComparedIn s.now b.now (keys frames.now values.now slopes.now) (keys new_frames.now new_values.now new_slopes.now) }
 {
     let p = say_materials(say_panes(o, page, b, panes), page, b, channels);
     let q = say_edits(

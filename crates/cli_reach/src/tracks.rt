@@ -4,7 +4,7 @@ ghost use Rattle.sheet.specs.Sizes.{target_count, animation_count};
 ghost use Rattle.sheet.specs.Checked.{Checked};
 ghost use Rattle.book.specs.Checked.{CheckedBook};
 ghost use Rattle.channel.specs.Channel.{channel_count};
-ghost use Rattle.edit.specs.Keys.{lent};
+ghost use Rattle.edit.specs.Keys.{keys};
 ghost use Rattle.reach.specs.Ready.{ComparedIn};
 
 use crate::changes::say_changes;
@@ -141,7 +141,7 @@ fn say_edited(
     c: usize,
     by: usize,
 ) -> Out
-    requires { ComparedIn s.now b.now (lent frames values slopes) (lent new_frames new_values new_slopes) × ((a < animation_count s.now) × ((t < target_count s.now) × (c < channel_count b.now))) }
+    requires { ComparedIn s.now b.now (keys frames.now values.now slopes.now) (keys new_frames.now new_values.now new_slopes.now) × ((a < animation_count s.now) × ((t < target_count s.now) × (c < channel_count b.now))) }
 {
     let p = say_place(o, page, b, c);
     if by != t {
@@ -174,7 +174,7 @@ fn say_track(
     channels: &[u16],
     to: usize,
 ) -> Out
-    requires { ComparedIn s.now b.now (lent frames values slopes) (lent new_frames new_values new_slopes) × ((a < animation_count s.now) × ((t < target_count s.now) × ((t < to) × (to ≤ length channels.now)))) }
+    requires { ComparedIn s.now b.now (keys frames.now values.now slopes.now) (keys new_frames.now new_values.now new_slopes.now) × ((a < animation_count s.now) × ((t < target_count s.now) × ((t < to) × (to ≤ length channels.now)))) }
 {
     if reach::same_track(
         s, frames, values, slopes, new_frames, new_values, new_slopes, t,
@@ -209,7 +209,7 @@ fn each_track(
     from: usize,
     to: usize,
 ) -> Out
-    requires { ComparedIn s.now b.now (lent frames values slopes) (lent new_frames new_values new_slopes) × ((a < animation_count s.now) × ((to ≤ target_count s.now) × (to ≤ length channels.now))) }
+    requires { ComparedIn s.now b.now (keys frames.now values.now slopes.now) (keys new_frames.now new_values.now new_slopes.now) × ((a < animation_count s.now) × ((to ≤ target_count s.now) × (to ≤ length channels.now))) }
 {
     let total = std::num::wrapping_sub_u64(to as u64, from as u64);
     let mut p = o;
@@ -242,7 +242,7 @@ pub fn say_tracks(
     new_slopes: &[f32],
     a: usize,
 ) -> Out
-    requires { ComparedIn s.now b.now (lent frames values slopes) (lent new_frames new_values new_slopes) × (a < animation_count s.now) }
+    requires { ComparedIn s.now b.now (keys frames.now values.now slopes.now) (keys new_frames.now new_values.now new_slopes.now) × (a < animation_count s.now) }
 {
     let mut channels = [0u16; MOST_TARGETS];
     let plan = reading::plan_of(s, b, a, &mut channels);

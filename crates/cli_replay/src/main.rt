@@ -1,4 +1,8 @@
 // The command line again, run on a list of calls: every kind of call made, refused, and written wrongly.
-fn main() {
-    cli_console::start();
+#![tactic(auto)]
+
+use std::process::ExitCode;
+
+fn main(rt: HostRuntime) -> ExitCode {
+    ExitCode::from(cli_console::start(rt))
 }

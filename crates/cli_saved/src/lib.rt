@@ -1,4 +1,6 @@
 // The call `save` of a list: the sheet with the keys as they are, in a file where one is named, and how far it is from the loaded sheet.
+#![tactic(auto)]
+
 mod differing;
 
 ghost use Rattle.std.specs.Prelude.{◌≡◌, length};
@@ -34,7 +36,7 @@ fn keep<'a>(o: Out, page: &mut [u8; PAGE], s: &'a [u8], out: &'a [u8], path: &[u
     requires { length out.now ≡ length s.now }
 {
     if path.len() > 0 {
-        let wrong = cli_command::write(path, out);
+        let wrong = cli_command::write(o.rt, path, out);
         if wrong != 0 {
             return cannot_write(o, page, path, wrong);
         }

@@ -1,4 +1,6 @@
 // Calls that show something and change nothing: each answered behind what stands for the call, in one line or several.
+#![tactic(auto)]
+
 mod resolved;
 mod shown;
 mod state;

@@ -1,4 +1,6 @@
 // Why a call was declined: the refusal's number, and of the things that it may mean the one that it was. What was looked at first by the call is told first.
+#![tactic(auto)]
+
 ghost use Rattle.sheet.specs.Checked.{Checked};
 ghost use Rattle.book.specs.Checked.{CheckedBook};
 

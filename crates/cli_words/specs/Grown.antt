@@ -1,6 +1,6 @@
 -- Laws on numbers that are read byte by byte, and on the parts of a text that the code takes. Assumes nothing.
-use Rattle.std.specs.Prelude.{◌≡◌, ℕ, zero, suc, ◌+◌, ◌-◌, ◌*◌, ◌%◌, ◌<◌, ◌≤◌, Bool, true, false, not, T, List, length, take, drop, slice_index, refl, Float}
-use Rattle.std.proofs.Common.{sym, ap, ◌∙◌, add-one, arith, length-drop, take_all, lt-ltb, le-ltb}
+use Rattle.std.specs.Prelude.{◌≡◌, ℕ, ◌+◌, ◌-◌, ◌%◌, ◌<◌, ◌≤◌, true, not, T, List, length, take, drop, slice_index, refl, Float}
+use Rattle.std.proofs.Common.{sym, ◌∙◌, add-one, arith, length-drop, take_all, lt-ltb, le-ltb}
 use Rattle.std.specs.Float.{nan, inf, fin, binary32}
 use Rattle.std.specs.Float.Ieee.{is_nan, nan_bits, of_bits, div}
 use Rattle.std.specs.Float.Ieee.Bits.{nan_bits_is, nan_bits_above}

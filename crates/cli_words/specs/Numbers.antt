@@ -1,6 +1,6 @@
 -- How a number is written: whole, in decimal, or by its bits. What is written badly counts as 2^24, or as 2^32 in hexadecimal, and stays so
 -- whatever follows. Definitions only.
-use Rattle.std.specs.Prelude.{ℕ, zero, suc, ◌+◌, ◌-◌, ◌*◌, Bool, true, false, cond, ◌&&◌, List, length, drop, pos, ◌==◌, from_bits, nat_le, nat_lt, slice_index, Float}
+use Rattle.std.specs.Prelude.{ℕ, zero, suc, ◌+◌, ◌-◌, ◌*◌, Bool, cond, ◌&&◌, List, length, drop, pos, ◌==◌, from_bits, nat_le, nat_lt, slice_index, Float}
 use Rattle.std.specs.Float.{binary32}
 use Rattle.std.specs.Float.Ieee.{of_int, div, neg}
 use Rattle.cli_words.specs.declared.number.Decimal.{Decimal}

@@ -1,4 +1,6 @@
 // Words, pieces and numbers of a text: what a command line and a list of calls are made of.
+#![tactic(auto)]
+
 mod number;
 mod part;
 

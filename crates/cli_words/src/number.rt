@@ -19,13 +19,13 @@ const ZERO: u8 = 48;
 const NINE: u8 = 57;
 
 // The digits without the point; `scale` is 0 before the point, and then ten to the number of digits after it.
-#[derive(Drop)]
+#[derive(Clone, Copy)]
 pub struct Decimal {
     pub digits: u64,
     pub scale: u64,
 }
 
-#[derive(Drop)]
+#[derive(Clone, Copy)]
 pub enum Number {
     Is(f32),
     Not,

@@ -1,6 +1,8 @@
 // Corners (document 01, "UVs and corners"), as the Rust's pane_tree.rs has them.
 // The calls from outside are `corners`, `translate` and `rotate_point`. None asks anything of its arguments: each answers a refusal's number, 0 for
 // none, and on a refusal +0 throughout.
+#![tactic(auto)]
+
 mod checks;
 pub mod points;
 
@@ -12,14 +14,14 @@ use laws::refusal::ACCEPTED;
 use points::Corners;
 
 #[repr(C)]
-#[derive(Drop)]
+#[derive(Clone, Copy)]
 pub struct Placed {
     pub refusal: u8,
     pub corners: Corners,
 }
 
 #[repr(C)]
-#[derive(Drop)]
+#[derive(Clone, Copy)]
 pub struct Turned {
     pub refusal: u8,
     pub point: Vector2,

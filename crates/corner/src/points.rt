@@ -6,7 +6,7 @@ ghost use Rattle.corner.specs.Turns.{turns_of, rotated_by};
 use float::{SinCos, Vector2, Vector3, add};
 
 #[repr(C)]
-#[derive(Drop)]
+#[derive(Clone, Copy)]
 pub struct Corners {
     pub topleft: Vector2,
     pub topright: Vector2,
@@ -22,7 +22,7 @@ fn turn_back(degrees: f32) -> SinCos
 }
 
 // A rotation as its points take it: whether it is all zero, and else the sine and cosine of each angle, turned the other way.
-#[derive(Drop)]
+#[derive(Clone, Copy)]
 struct Turns {
     still: bool,
     x: SinCos,

@@ -20,7 +20,7 @@ pub record Keys : Type 0 where
 abbrev pub keys : List Float → List Float → List Float → Keys
 keys fs vs ss = record { frames = fs; values = vs; slopes = ss }
 
--- three lent slices, so that a contract names them once: `lent frames.entry values.entry slopes.entry`
+-- the keys that three lent slices hold
 abbrev pub lent : Bor (List Float) → Bor (List Float) → Bor (List Float) → Keys
 lent f v s = keys f.now v.now s.now
 

@@ -6,4 +6,3 @@ pub mod Put
 pub mod Accepted
 pub mod Edits
 pub mod Over
-pub mod Unchanged

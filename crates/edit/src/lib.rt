@@ -1,4 +1,6 @@
 // Edits of one key: where it is, the key that a request makes, when the request is declined, and when a key may stand in another's place.
+#![tactic(auto)]
+
 pub mod put;
 pub mod request;
 pub mod spot;

@@ -1,6 +1,6 @@
 // A key put in another's place, and whether it may stand there: a look at that key and its two neighbours, not at all keys.
 ghost use Rattle.std.specs.Prelude.{◌≡◌, set};
-ghost use Rattle.edit.specs.Keys.{lent, same_key, Within};
+ghost use Rattle.edit.specs.Keys.{Within, keys, same_key};
 ghost use Rattle.edit.specs.Spot.{Inside};
 ghost use Rattle.edit.specs.Put.{frame_before, before_next, fits_at};
 
@@ -55,7 +55,7 @@ pub fn fits_at(frames: &[f32], p: Spot, x: Key) -> bool
 }
 
 pub fn put_key(frames: &mut [f32], values: &mut [f32], slopes: &mut [f32], at: usize, k: Key)
-    requires { Within (lent frames values slopes) at }
+    requires { Within (keys frames.old values.old slopes.old) at }
     ensures frames_after { frames.new ≡ set frames.old at k.frame }
     ensures values_after { values.new ≡ set values.old at k.value }
     ensures slopes_after { slopes.new ≡ set slopes.old at k.slope }

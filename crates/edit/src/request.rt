@@ -2,7 +2,7 @@
 ghost use Rattle.std.specs.Prelude.{◌≡◌};
 ghost use Rattle.laws.specs.Rows.{declines};
 ghost use Rattle.sheet.specs.Checked.{Checked};
-ghost use Rattle.edit.specs.Keys.{lent};
+ghost use Rattle.edit.specs.Keys.{keys};
 ghost use Rattle.edit.specs.Edit.{lowest, highest, clamped_frame, edited_frame, edited_value, edited_at, overtakes, request_rows, track_rows};
 ghost use Rattle.edit.specs.Spot.{Inside, InsideAll};
 
@@ -14,7 +14,7 @@ use laws::refusal::{
 };
 
 // What is asked of a key: a frame and a value, or a slope.
-#[derive(Drop)]
+#[derive(Clone, Copy)]
 pub enum Request {
     Key(f32, f32),
     Slope(f32),
@@ -76,7 +76,7 @@ fn edited_value(p: Spot, v: f32) -> f32
 
 pub fn edited(frames: &[f32], values: &[f32], slopes: &[f32], p: Spot, r: Request) -> Key
     requires { InsideAll frames.now values.now slopes.now p }
-    ensures { result ≡ edited_at (lent frames.entry values.entry slopes.entry) p r }
+    ensures { result ≡ edited_at (keys frames.now values.now slopes.now) p r }
 {
     let old = curve::key_at(frames, values, slopes, p.at);
     match r {

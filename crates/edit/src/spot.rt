@@ -5,7 +5,7 @@ ghost use Rattle.sheet.specs.Checked.{Checked};
 ghost use Rattle.edit.specs.Edit.{has_key, spot_of, key_in};
 
 // Where a track's key is: its curve, its place among all keys, its number in the track, and whether a key of the track comes next.
-#[derive(Drop)]
+#[derive(Clone, Copy)]
 pub struct Spot {
     pub curve: usize,
     pub at: usize,

@@ -8,7 +8,7 @@ use crate::rules::NONE;
 // `rule` is the number of the broken rule, 0 where none is (see rules.rt); `row` the row of its part, for a key its track, and `key` the key's number in that
 // track. `at` is the byte offset of the field, `there` what it holds: a number, or the bits of an f32. `wants` is the number that the rule holds it against,
 // 0 where the rule has none.
-#[derive(Drop)]
+#[derive(Clone, Copy)]
 pub struct Fault {
     pub rule: u8,
     pub row: usize,

@@ -1,5 +1,7 @@
 // The first rule that a sheet, a book or the keys of a sheet break: which part, which row, where, and what is there. For whoever has to say why a file is
 // declined. Nothing is printed here.
+#![tactic(auto)]
+
 mod books;
 mod fault;
 mod names;

@@ -1,5 +1,5 @@
--- How f32s are written into a list of bytes (document 01, its head: little-endian): their bytes, what a loop that writes them keeps, and that what is
--- written reads back. Assumes nothing.
+-- How f32s are written into a list of bytes (document 01, its head: little-endian): their bytes, and that what is written reads back. What a loop that
+-- writes them keeps is shown in proofs/Writing. Assumes nothing.
 use Rattle.std.specs.Prelude.{◌≡◌, ℕ, zero, suc, ◌+◌, ◌*◌, ◌/◌, ◌%◌, ◌<◌, ◌≤◌, true, T, List, ◌++◌, length, get_or, take, drop, from_bits, slice_index, slice_index_or, slice_set, to_bits, Float}
 use Rattle.std.proofs.Common.{sym, ◌∙◌, ap, length-take, length-drop, get_or-append-add, ext_get_or, get_or-take, get_or-drop}
 use native.Mathlib.Omega.{arith}
@@ -8,7 +8,7 @@ use Rattle.std.proofs.Math.ListN.{get_or-append}
 use Rattle.std.specs.Float.{nan}
 use Rattle.std.specs.Float.Ieee.{binary32, fits}
 use Rattle.std.specs.Float.Ieee.Bits.{of_bits-to_bits, to_bits-of_bits, to_bits-lt}
-use Rattle.laws.specs.Table.{table, table_length, table_at, Filled, filled_more}
+use Rattle.laws.specs.Table.{table, table_length, table_at}
 use Rattle.float.specs.Bits.{finite_number}
 use Rattle.field.specs.Read.{byte_at, u16_at, u32_at, float_at, finite_at}
 use Rattle.field.specs.Word.{Bytes, small_32}
@@ -38,29 +38,9 @@ bytes_long xs = table_length (length xs * 4) (float_byte xs)
 -- ---- a loop that writes them
 
 -- byte k of the j-th
-float_byte_lem : (xs : List Float) (j k : ℕ) → k < 4 → float_byte xs (j * 4 + k) ≡ byte_of (to_bits binary32 (slice_index_or xs j nan)) k
+pub float_byte_lem : (xs : List Float) (j k : ℕ) → k < 4 → float_byte xs (j * 4 + k) ≡ byte_of (to_bits binary32 (slice_index_or xs j nan)) k
 unfolding float_byte
 float_byte_lem xs j k l = rw (digits_div j l, digits_mod j l)
-
--- four bytes more are those of x
-filled_float : {n i : ℕ} {f : ℕ → ℕ} {l : List ℕ} (x : Float) → Filled n f l i → i + 4 ≤ n → ((k j : ℕ) → k < 4 → j ≡ i + k → byte_of (to_bits binary32 x) k ≡ f j)
-    → Filled n f (put_float l i x) (i + 4)
-unfolding put_float
-filled_float {n} {i} {f} {l} x w h e =
-    let one = filled_more w (omega arith) (e 0 i (omega arith) (omega arith)) in
-    let two = next (i + 1) (i + 2) (omega arith) (filled_more one (omega arith) (e 1 (i + 1) (omega arith) (omega arith))) in
-    let three = next (i + 2) (i + 3) (omega arith) (filled_more two (omega arith) (e 2 (i + 2) (omega arith) (omega arith))) in
-    next (i + 3) (i + 4) (omega arith) (filled_more three (omega arith) (e 3 (i + 3) (omega arith) (omega arith)))
-  where
-    next : (a b : ℕ) → a + 1 ≡ b → {l : List ℕ} → Filled n f l (a + 1) → Filled n f l b
-    next a b q w = rw q at w
-
--- one f32 more, the j-th, at p
-pub float_more : (xs : List Float) {n : ℕ} {l : List ℕ} {x : Float} {p q : ℕ} (j : ℕ) → p ≡ j * 4 → q ≡ p + 4 → q ≤ n → Filled n (float_byte xs) l p → x ≡ slice_index_or xs j nan
-    → Filled n (float_byte xs) (put_float l p x) q
-float_more xs {n} {l} {x} {p} {q} j e f m w h =
-    rw f (filled_float x w (omega arith)
-    (λ k i b d. let a : i ≡ j * 4 + k = omega arith in rw (a, h) (sym (float_byte_lem xs j k b))))
 
 -- ---- what is written reads back
 

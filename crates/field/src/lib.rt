@@ -1,7 +1,9 @@
 // Fields of a lent slice of bytes: little-endian numbers, finite floats, which are also written, and names of 24 bytes.
+#![tactic(auto)]
+
 mod index;
 
-ghost use Rattle.std.specs.Prelude.{◌≡◌, ◌+◌, ◌*◌, ◌<◌, ◌≤◌, true, length};
+ghost use Rattle.std.specs.Prelude.{◌≡◌, ◌+◌, ◌*◌, ◌<◌, ◌≤◌, true, length, drop, ◌++◌};
 ghost use Rattle.field.specs.Read.{byte_at, u16_at, u32_at, float_at, finite_at, finite_row};
 ghost use Rattle.field.specs.Name.{name_bytes, name_at, same_name, empty_name, other_name, name_ok, names_ok, find_name, Fields};
 ghost use Rattle.field.specs.Word.{word_at};
@@ -236,4 +238,12 @@ pub fn find_name(
         break 'rows;
     }
     found
+}
+
+// A slice at the start of another; what stands behind it stays.
+pub fn copy(from: &[u8], to: &mut [u8])
+    requires { length from.now ≤ length to.old }
+    ensures { to.new ≡ from.now ++ drop (length from.now) to.old }
+{
+    to[..from.len()].copy_from_slice(from);
 }

@@ -1,4 +1,6 @@
 // The keys of a sheet: their rules, and loading them.
+#![tactic(auto)]
+
 mod blocks;
 mod load;
 mod rules;

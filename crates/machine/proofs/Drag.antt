@@ -17,7 +17,7 @@ use Rattle.edit.specs.Keys.{Keys, key_at, put_key, same_key, get_put}
 use Rattle.edit.specs.Edit.{has_key, place, spot_of, edited, unchanged, made_edit, request_rows, track_rows}
 use Rattle.edit.specs.Accepted.{tracked_key}
 use Rattle.edit.specs.Over.{rows_over, made_over}
-use Rattle.edit.specs.Unchanged.{unchanged_leaves}
+use Rattle.edit.proofs.Unchanged.{unchanged_leaves}
 use Rattle.player.specs.Journal.{with_row}
 use Rattle.player.specs.Edited.{edited_player}
 use Rattle.player.specs.Drag.{drop_unchanged}

@@ -22,7 +22,7 @@ use Rattle.curve.specs.Curve.{kind_constant}
 use Rattle.curve.specs.Outside.{outside, picked}
 use Rattle.channel.specs.Channel.{target_channel}
 use Rattle.reading.specs.Reading.{last_target}
-use Rattle.reading.specs.LastTarget.{last_target_only}
+use Rattle.reading.proofs.LastTarget.{last_target_only}
 use Rattle.reading.specs.Untouched.{untouched_reads}
 use Rattle.reading.specs.declared.Active.{Active}
 use Rattle.reading.specs.declared.Active.TheVariants as active

@@ -19,7 +19,7 @@ use Rattle.keys.specs.Alike.{rules_same}
 use Rattle.keys.specs.Stored.{stored_frames, stored_values, stored_slopes}
 use Rattle.keys.specs.Load.{arrays_ok, load_table, load_of}
 use Rattle.keys.specs.Loading.{loadable}
-use Rattle.saved.specs.Back.{saved_long, saved_alike, saved_again, saved_frames, saved_values, saved_slopes, saved_same}
+use Rattle.saved.proofs.Back.{saved_long, saved_alike, saved_again, saved_frames, saved_values, saved_slopes, saved_same}
 use Rattle.player.specs.declared.drag.Drag.{Drag}
 use Rattle.player.specs.Player.{fresh_player}
 use Rattle.edit.specs.Keys.{Keys, keys}

@@ -19,7 +19,7 @@ use Rattle.player.specs.Dragged.{dropped_player}
 use Rattle.edit.specs.declared.request.Request.{Request}
 use Rattle.edit.specs.Keys.{Keys, key_at}
 use Rattle.edit.specs.Edit.{Edit, unchanged, made_edit}
-use Rattle.edit.specs.Unchanged.{left_unchanged}
+use Rattle.edit.proofs.Unchanged.{left_unchanged}
 use Rattle.menu.specs.Rows.{edit_table, close_table}
 use Rattle.menu.specs.Calls.{EditedKeys, edit_of, held_at, drop_of, undo_of, redo_of, loaded_of}
 use Rattle.machine.specs.Runs.{last, Each}

@@ -25,7 +25,8 @@ use Rattle.player.specs.Drag.{no_drag, start_of, opened_on, moved_on, drop_uncha
 use Rattle.player.specs.Dragged.{dropped_player, open_has}
 use Rattle.player.specs.Undo.{taken_keys}
 use Rattle.menu_checks.specs.Rows.{state_rows, behind}
-use Rattle.menu_checks.specs.Checks.{state_ready, state_behind}
+use Rattle.menu_checks.specs.Checks.{state_ready}
+use Rattle.menu_checks.proofs.Behind.{state_behind}
 use Rattle.menu.specs.Rows.{open_table, drag_rows, drag_table, close_table}
 use Rattle.menu.specs.declared.editing.Edited.{Edited}
 use Rattle.menu.specs.Calls.{gave, gave_edit, entry_for, drag_of, drop_of, abandon_of}

@@ -25,7 +25,8 @@ use Rattle.edit.specs.Spot.{InsideAll}
 use Rattle.player.specs.Counts.{CanEdit}
 use Rattle.player.specs.Undo.{taken_keys}
 use Rattle.menu_checks.specs.Rows.{state_rows, behind}
-use Rattle.menu_checks.specs.Checks.{KeysReady, StateReady, state_ready, state_behind}
+use Rattle.menu_checks.specs.Checks.{KeysReady, StateReady, state_ready}
+use Rattle.menu_checks.proofs.Behind.{state_behind}
 use Rattle.menu.specs.declared.editing.Edited.{Edited}
 use Rattle.menu.specs.declared.editing.Made.{Made}
 use Rattle.menu.specs.declared.editing.Made.TheVariants as made

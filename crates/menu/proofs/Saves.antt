@@ -11,7 +11,8 @@ use Rattle.saved.specs.Saved.{Savable}
 use Rattle.player.specs.declared.Player.{Player}
 use Rattle.edit.specs.Keys.{keys}
 use Rattle.menu_checks.specs.Rows.{state_rows, behind}
-use Rattle.menu_checks.specs.Checks.{state_ready, state_behind}
+use Rattle.menu_checks.specs.Checks.{state_ready}
+use Rattle.menu_checks.proofs.Behind.{state_behind}
 use Rattle.menu.specs.Rows.{save_rows, save_table}
 
 -- the call's list, by what its check and its own row answered

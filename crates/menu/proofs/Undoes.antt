@@ -18,7 +18,8 @@ use Rattle.player.specs.Undo.{entries, entry_of, take_rows, taken_player}
 use Rattle.player.specs.Sound.{Sound}
 use Rattle.player.specs.Takes.{Takeable}
 use Rattle.menu_checks.specs.Rows.{state_rows, behind}
-use Rattle.menu_checks.specs.Checks.{StateReady, state_ready, state_behind, behind_none}
+use Rattle.menu_checks.specs.Checks.{StateReady, state_ready}
+use Rattle.menu_checks.proofs.Behind.{state_behind, behind_none}
 use Rattle.menu.specs.Rows.{take_table}
 use Rattle.menu.specs.Calls.{gave, take_of}
 use Rattle.menu.specs.Steps.{Placed, entry_rows, taken_behind}

@@ -2,7 +2,7 @@
 ghost use Rattle.std.specs.Prelude.{◌≡◌};
 ghost use Rattle.laws.specs.Rows.{declines};
 ghost use Rattle.sheet.specs.Checked.{Checked};
-ghost use Rattle.edit.specs.Keys.{lent};
+ghost use Rattle.edit.specs.Keys.{keys};
 ghost use Rattle.edit.specs.Edit.{track_rows};
 ghost use Rattle.player.specs.Drag.{open_rows};
 ghost use Rattle.player.specs.Dragged.{Draggable};
@@ -42,7 +42,7 @@ pub fn open_drag(
     track: u16,
     key: u16,
 ) -> Played
-    ensures { result ≡ open_of s.now p (lent frames.entry values.entry slopes.entry) track key }
+    ensures { result ≡ open_of s.now p (keys frames.now values.now slopes.now) track key }
 {
     let first = check_keys(s, frames, values, slopes);
     let n = check_state(first, p, s, frames, values, slopes);
@@ -72,8 +72,8 @@ fn drag_refusal(
     frame: f32,
     value: f32,
 ) -> u8
-    requires { n ≡ 0 → Draggable s.now (lent frames values slopes) d }
-    ensures { result ≡ behind n (declines (drag_rows s.now (lent frames.entry values.entry slopes.entry) d frame value)) }
+    requires { n ≡ 0 → Draggable s.now (keys frames.now values.now slopes.now) d }
+    ensures { result ≡ behind n (declines (drag_rows s.now (keys frames.now values.now slopes.now) d frame value)) }
 {
     if n != ACCEPTED {
         return n;
@@ -96,9 +96,9 @@ fn move_key(
     key: u16,
     r: Request,
 ) -> bool
-    requires { n ≡ 0 → Placed s.now (lent frames values slopes) track key }
-    ensures same { result ≡ moves_same n s.now (lent frames.entry values.entry slopes.entry) track key r }
-    ensures keys { lent frames.exit values.exit slopes.exit ≡ moved_keys n s.now (lent frames.entry values.entry slopes.entry) track key r }
+    requires { n ≡ 0 → Placed s.now (keys frames.old values.old slopes.old) track key }
+    ensures same { result ≡ moves_same n s.now (keys frames.old values.old slopes.old) track key r }
+    ensures keys { keys frames.new values.new slopes.new ≡ moved_keys n s.now (keys frames.old values.old slopes.old) track key r }
 {
     if n != ACCEPTED {
         return false;
@@ -118,7 +118,7 @@ pub fn drag(
     frame: f32,
     value: f32,
 ) -> Edited
-    ensures { gave_edit result (lent frames.exit values.exit slopes.exit) ≡ drag_of s.now p (lent frames.entry values.entry slopes.entry) frame value }
+    ensures { gave_edit result (keys frames.new values.new slopes.new) ≡ drag_of s.now p (keys frames.old values.old slopes.old) frame value }
 {
     let d = p.drag;
     let first = check_keys(s, frames, values, slopes);
@@ -149,7 +149,7 @@ fn close_refusal(n: u8, dragging: bool) -> u8
 
 // Leaves the key where it is, as one edit if a drag was accepted and the key has other bits than at opening. Refusals 1, 3 to 5, 15.
 pub fn drop_drag(p: Player, s: &[u8], frames: &[f32], values: &[f32], slopes: &[f32]) -> Edited
-    ensures { result ≡ drop_of s.now p (lent frames.entry values.entry slopes.entry) }
+    ensures { result ≡ drop_of s.now p (keys frames.now values.now slopes.now) }
 {
     let d = p.drag;
     let first = check_keys(s, frames, values, slopes);
@@ -179,9 +179,9 @@ fn put_back(
     values: &mut [f32],
     slopes: &mut [f32],
 ) -> Drag
-    requires { n ≡ 0 → Placed s.now (lent frames values slopes) d.track d.key }
+    requires { n ≡ 0 → Placed s.now (keys frames.old values.old slopes.old) d.track d.key }
     ensures drag { result ≡ abandoned_drag n d }
-    ensures keys { lent frames.exit values.exit slopes.exit ≡ abandoned_keys n s.now (lent frames.entry values.entry slopes.entry) d }
+    ensures keys { keys frames.new values.new slopes.new ≡ abandoned_keys n s.now (keys frames.old values.old slopes.old) d }
 {
     if n != ACCEPTED {
         return d;
@@ -199,7 +199,7 @@ pub fn abandon_drag(
     values: &mut [f32],
     slopes: &mut [f32],
 ) -> Played
-    ensures { gave result (lent frames.exit values.exit slopes.exit) ≡ abandon_of s.now p (lent frames.entry values.entry slopes.entry) }
+    ensures { gave result (keys frames.new values.new slopes.new) ≡ abandon_of s.now p (keys frames.old values.old slopes.old) }
 {
     let d = p.drag;
     let first = check_keys(s, frames, values, slopes);

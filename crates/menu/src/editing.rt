@@ -1,7 +1,7 @@
 // The edits of one key.
 ghost use Rattle.std.specs.Prelude.{◌≡◌};
 ghost use Rattle.laws.specs.Rows.{declines};
-ghost use Rattle.edit.specs.Keys.{lent};
+ghost use Rattle.edit.specs.Keys.{keys};
 ghost use Rattle.edit.specs.Edit.{edit_rows};
 ghost use Rattle.player.specs.Undo.{taken_keys};
 ghost use Rattle.menu_checks.specs.Rows.{behind};
@@ -20,7 +20,7 @@ use player::journal::Entry;
 // What an edit, a drag and a drop answer. `unchanged`: accepted, and the key has the same bits as before the call, for a drop as at the opening; also a drop
 // with no accepted drag.
 #[repr(C)]
-#[derive(Drop)]
+#[derive(Clone, Copy)]
 pub struct Edited {
     pub refusal: u8,
     pub unchanged: bool,
@@ -28,7 +28,7 @@ pub struct Edited {
 }
 
 // What a request comes to, but for the player.
-#[derive(Drop)]
+#[derive(Clone, Copy)]
 enum Made {
     Declined(u8),
     Same,
@@ -48,8 +48,8 @@ fn edit_refusal(
     key: u16,
     r: Request,
 ) -> u8
-    requires { n ≡ 0 → KeysReady s.now (lent frames values slopes) }
-    ensures { result ≡ behind n (declines (edit_rows s.now selection dragging (lent frames.entry values.entry slopes.entry) track key r)) }
+    requires { n ≡ 0 → KeysReady s.now (keys frames.now values.now slopes.now) }
+    ensures { result ≡ behind n (declines (edit_rows s.now selection dragging (keys frames.now values.now slopes.now) track key r)) }
 {
     if n != ACCEPTED {
         return n;
@@ -72,8 +72,8 @@ pub fn entry_for(
     key: u16,
     r: Request,
 ) -> Entry
-    requires { Placed s.now (lent frames values slopes) track key }
-    ensures { result ≡ entry_for s.now (lent frames.entry values.entry slopes.entry) track key r }
+    requires { Placed s.now (keys frames.now values.now slopes.now) track key }
+    ensures { result ≡ entry_for s.now (keys frames.now values.now slopes.now) track key r }
 {
     let spot = spot_of(s, track as usize, key);
     let before = curve::key_at(frames, values, slopes, spot.at);
@@ -88,8 +88,8 @@ pub fn entry_for(
 
 // The entry's key is left as the entry leaves it.
 pub fn put_entry(s: &[u8], frames: &mut [f32], values: &mut [f32], slopes: &mut [f32], e: Entry)
-    requires { Placed s.now (lent frames values slopes) e.track e.key }
-    ensures { lent frames.exit values.exit slopes.exit ≡ taken_keys s.now (lent frames.entry values.entry slopes.entry) e }
+    requires { Placed s.now (keys frames.old values.old slopes.old) e.track e.key }
+    ensures { keys frames.new values.new slopes.new ≡ taken_keys s.now (keys frames.old values.old slopes.old) e }
 {
     let spot = spot_of(s, e.track as usize, e.key);
     put_key(frames, values, slopes, spot.at, e.after);
@@ -106,8 +106,8 @@ fn edit(
     key: u16,
     r: Request,
 ) -> Made
-    requires { n ≡ 0 → Placed s.now (lent frames values slopes) track key }
-    ensures { (p : Player) → gave_edit (answered p result) (lent frames.exit values.exit slopes.exit) ≡ edited_to n s.now p (lent frames.entry values.entry slopes.entry) track key r }
+    requires { n ≡ 0 → Placed s.now (keys frames.old values.old slopes.old) track key }
+    ensures { (p : Player) → gave_edit (answered p result) (keys frames.new values.new slopes.new) ≡ edited_to n s.now p (keys frames.old values.old slopes.old) track key r }
 {
     if n != ACCEPTED {
         return Made::Declined(n);
@@ -132,7 +132,7 @@ pub fn key_edit(
     frame: f32,
     value: f32,
 ) -> Edited
-    ensures { gave_edit result (lent frames.exit values.exit slopes.exit) ≡ edit_of s.now p (lent frames.entry values.entry slopes.entry) track key (Request.Key frame value) }
+    ensures { gave_edit result (keys frames.new values.new slopes.new) ≡ edit_of s.now p (keys frames.old values.old slopes.old) track key (Request.Key frame value) }
 {
     let r = Request::Key(frame, value);
     let first = check_keys(s, frames, values, slopes);
@@ -179,7 +179,7 @@ pub fn slope_edit(
     key: u16,
     slope: f32,
 ) -> Edited
-    ensures { gave_edit result (lent frames.exit values.exit slopes.exit) ≡ edit_of s.now p (lent frames.entry values.entry slopes.entry) track key (Request.Slope slope) }
+    ensures { gave_edit result (keys frames.new values.new slopes.new) ≡ edit_of s.now p (keys frames.old values.old slopes.old) track key (Request.Slope slope) }
 {
     let r = Request::Slope(slope);
     let first = check_keys(s, frames, values, slopes);

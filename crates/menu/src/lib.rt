@@ -1,5 +1,7 @@
 // Loading, playing, editing, dragging and saving: each call looks at its rows of the table in their order, then makes its step. No call asks anything of its
 // caller.
+#![tactic(auto)]
+
 mod dragging;
 mod editing;
 mod loading;

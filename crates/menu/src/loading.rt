@@ -1,6 +1,6 @@
 // Loading a sheet, and the name of the animation that follows one.
 ghost use Rattle.std.specs.Prelude.{◌≡◌};
-ghost use Rattle.edit.specs.Keys.{lent};
+ghost use Rattle.edit.specs.Keys.{keys};
 ghost use Rattle.menu.specs.Calls.{gave, loaded_of, next_name_of};
 
 use crate::playing::Played;
@@ -8,7 +8,7 @@ use player::Player;
 
 // The keys of a sheet into three lent arrays, with a fresh player. Refusals 1, 3, 4.
 pub fn load(s: &[u8], frames: &mut [f32], values: &mut [f32], slopes: &mut [f32]) -> Played
-    ensures { gave result (lent frames.exit values.exit slopes.exit) ≡ loaded_of s.now (lent frames.entry values.entry slopes.entry) }
+    ensures { gave result (keys frames.new values.new slopes.new) ≡ loaded_of s.now (keys frames.old values.old slopes.old) }
 {
     let n = keys::load_keys(s, frames, values, slopes);
     Played {

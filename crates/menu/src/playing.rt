@@ -15,13 +15,13 @@ use player::{Player, Tick};
 
 // A refusal, 0 for none, and the player after the call.
 #[repr(C)]
-#[derive(Drop)]
+#[derive(Clone, Copy)]
 pub struct Played {
     pub refusal: u8,
     pub player: Player,
 }
 
-#[derive(Drop)]
+#[derive(Clone, Copy)]
 pub struct Ticked {
     pub refusal: u8,
     pub answer: Tick,

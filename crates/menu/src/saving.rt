@@ -1,7 +1,7 @@
 // Saving: the sheet with the keys as they are now.
 ghost use Rattle.std.specs.Prelude.{◌≡◌, length};
 ghost use Rattle.laws.specs.Rows.{declines};
-ghost use Rattle.edit.specs.Keys.{lent};
+ghost use Rattle.edit.specs.Keys.{keys};
 ghost use Rattle.menu_checks.specs.Rows.{behind};
 ghost use Rattle.menu.specs.Rows.{save_rows};
 ghost use Rattle.menu.specs.Calls.{wrote, save_of};
@@ -33,7 +33,7 @@ pub fn save(
     slopes: &[f32],
     out: &mut [u8],
 ) -> u8
-    ensures { wrote result out.new ≡ save_of s.now p (lent frames.entry values.entry slopes.entry) out.old }
+    ensures { wrote result out.new ≡ save_of s.now p (keys frames.now values.now slopes.now) out.old }
 {
     let first = check_keys(s, frames, values, slopes);
     let n = check_state(first, p, s, frames, values, slopes);

@@ -1,7 +1,7 @@
 // Undo and redo: both take an entry of the journal.
 ghost use Rattle.std.specs.Prelude.{◌≡◌};
 ghost use Rattle.laws.specs.Rows.{declines};
-ghost use Rattle.edit.specs.Keys.{lent};
+ghost use Rattle.edit.specs.Keys.{keys};
 ghost use Rattle.player.specs.Takes.{Takeable};
 ghost use Rattle.menu_checks.specs.Rows.{behind};
 ghost use Rattle.menu.specs.Calls.{gave, undo_of, redo_of};
@@ -26,8 +26,8 @@ fn take_refusal(
     left: u64,
     e: Entry,
 ) -> u8
-    requires { n ≡ 0 → Takeable s.now (lent frames values slopes) left e }
-    ensures { result ≡ behind n (declines (entry_rows s.now (lent frames.entry values.entry slopes.entry) dragging left e)) }
+    requires { n ≡ 0 → Takeable s.now (keys frames.now values.now slopes.now) left e }
+    ensures { result ≡ behind n (declines (entry_rows s.now (keys frames.now values.now slopes.now) dragging left e)) }
 {
     if n != ACCEPTED {
         return n;
@@ -55,9 +55,9 @@ fn take(
     left: u64,
     e: Entry,
 ) -> u8
-    requires { n ≡ 0 → Takeable s.now (lent frames values slopes) left e }
-    ensures number { result ≡ behind n (declines (entry_rows s.now (lent frames.entry values.entry slopes.entry) dragging left e)) }
-    ensures keys { lent frames.exit values.exit slopes.exit ≡ taken_behind result s.now (lent frames.entry values.entry slopes.entry) e }
+    requires { n ≡ 0 → Takeable s.now (keys frames.old values.old slopes.old) left e }
+    ensures number { result ≡ behind n (declines (entry_rows s.now (keys frames.old values.old slopes.old) dragging left e)) }
+    ensures keys { keys frames.new values.new slopes.new ≡ taken_behind result s.now (keys frames.old values.old slopes.old) e }
 {
     let m = take_refusal(n, s, frames, values, slopes, dragging, left, e);
     if m != ACCEPTED {
@@ -75,7 +75,7 @@ pub fn undo(
     values: &mut [f32],
     slopes: &mut [f32],
 ) -> Played
-    ensures { gave result (lent frames.exit values.exit slopes.exit) ≡ undo_of s.now p (lent frames.entry values.entry slopes.entry) }
+    ensures { gave result (keys frames.new values.new slopes.new) ≡ undo_of s.now p (keys frames.old values.old slopes.old) }
 {
     let first = check_keys(s, frames, values, slopes);
     let n = check_state(first, p, s, frames, values, slopes);
@@ -101,7 +101,7 @@ pub fn redo(
     values: &mut [f32],
     slopes: &mut [f32],
 ) -> Played
-    ensures { gave result (lent frames.exit values.exit slopes.exit) ≡ redo_of s.now p (lent frames.entry values.entry slopes.entry) }
+    ensures { gave result (keys frames.new values.new slopes.new) ≡ redo_of s.now p (keys frames.old values.old slopes.old) }
 {
     let first = check_keys(s, frames, values, slopes);
     let n = check_state(first, p, s, frames, values, slopes);

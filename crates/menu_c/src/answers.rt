@@ -7,7 +7,7 @@ use reading::Reading;
 
 // `answer` is 0 idle, 1 running, 2 ended, 3 ended with a next name.
 #[repr(C)]
-#[derive(Drop)]
+#[derive(Clone, Copy)]
 pub struct Ticked {
     pub refusal: u8,
     pub answer: u8,
@@ -16,7 +16,7 @@ pub struct Ticked {
 
 // `kind` is 0 nothing, 1 a number, 2 shown (1) or hidden (0), 3 a texture row, 4 a level.
 #[repr(C)]
-#[derive(Drop)]
+#[derive(Clone, Copy)]
 pub struct ReadOne {
     pub refusal: u8,
     pub kind: u8,

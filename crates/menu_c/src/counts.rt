@@ -4,15 +4,13 @@ ghost use Rattle.menu_checks.specs.Counts.{sheet_counts_of, book_counts_of};
 
 use menu_checks::{BookCounts, SheetCounts};
 
-#[unsafe(no_mangle)]
-pub extern "C" fn menu_sheet_counts(sheet: &[u8]) -> SheetCounts
+pub fn menu_sheet_counts(sheet: &[u8]) -> SheetCounts
     ensures { result ≡ sheet_counts_of sheet.now }
 {
     menu_checks::sheet_counts(sheet)
 }
 
-#[unsafe(no_mangle)]
-pub extern "C" fn menu_book_counts(book: &[u8]) -> BookCounts
+pub fn menu_book_counts(book: &[u8]) -> BookCounts
     ensures { result ≡ book_counts_of book.now }
 {
     menu_checks::book_counts(book)

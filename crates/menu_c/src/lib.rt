@@ -1,13 +1,15 @@
-// The outward calls for C and for Rust. Each hands its arguments on and gives the answer on, an enum in it as a number; a slice goes as a pointer
-// and a length, the player by value. No call asks anything of its caller but that a pointer has as many elements as its length says.
+// The outward calls as C and Rust get them: each hands its arguments on and gives the answer on, an enum in it as a number. No call asks anything of its
+// caller. `menu_exports` exports them under the same names.
+#![tactic(auto)]
+
 mod answers;
-mod counts;
-mod dragging;
-mod editing;
-mod naming;
-mod playing;
-mod reaching;
-mod readings;
-mod shapes;
+pub mod counts;
+pub mod dragging;
+pub mod editing;
+pub mod naming;
+pub mod playing;
+pub mod reaching;
+pub mod readings;
+pub mod shapes;
 
 pub use answers::{ReadOne, Ticked};

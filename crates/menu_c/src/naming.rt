@@ -1,6 +1,6 @@
 // Names, which the calls of `menu` hand back as a part of the sheet or of the book, copied into a lent output.
 ghost use Rattle.std.specs.Prelude.{◌≡◌, length};
-ghost use Rattle.edit.specs.Keys.{lent};
+ghost use Rattle.edit.specs.Keys.{keys};
 ghost use Rattle.laws.specs.Rows.{declines};
 ghost use Rattle.menu.specs.Rows.{next_name_table};
 ghost use Rattle.menu.specs.Calls.{wrote, written_by};
@@ -21,7 +21,7 @@ fn hand_out(name: &[u8], out: &mut [u8]) -> u8
     if out.len() != NAME_BYTES {
         return OUTPUT_LENGTH;
     }
-    bytes::copy(name, out);
+    field::copy(name, out);
     ACCEPTED
 }
 
@@ -38,8 +38,7 @@ fn next_refusal(s: &[u8], animation: u16) -> u8
 }
 
 // The name that follows an animation, into 24 bytes: all zero where it has none. Refusals 1, 6, 13.
-#[unsafe(no_mangle)]
-pub extern "C" fn menu_next_name(sheet: &[u8], animation: u16, out: &mut [u8]) -> u8
+pub fn menu_next_name(sheet: &[u8], animation: u16, out: &mut [u8]) -> u8
     ensures { wrote result out.new ≡ next_name_into sheet.now animation out.old }
 {
     let n = next_refusal(sheet, animation);
@@ -60,7 +59,7 @@ fn slot_refusal(
     material: u16,
     slot: u16,
 ) -> u8
-    ensures { result ≡ declines (texture_name_table s.now b.now p (lent frames.entry values.entry slopes.entry) material slot) }
+    ensures { result ≡ declines (texture_name_table s.now b.now p (keys frames.now values.now slopes.now) material slot) }
 {
     let first = check_book(s, b, frames, values, slopes);
     let n = check_state(first, p, s, frames, values, slopes);
@@ -76,8 +75,7 @@ fn slot_refusal(
 }
 
 // The name of a material's texture slot, into 24 bytes. Refusals 1 to 5, 7, 13.
-#[unsafe(no_mangle)]
-pub extern "C" fn menu_texture_name<'a>(
+pub fn menu_texture_name<'a>(
     player: Player,
     sheet: &'a [u8],
     book: &'a [u8],
@@ -88,7 +86,7 @@ pub extern "C" fn menu_texture_name<'a>(
     slot: u16,
     out: &mut [u8],
 ) -> u8
-    ensures { wrote result out.new ≡ texture_name_into sheet.now book.now player (lent frames.entry values.entry slopes.entry) material slot out.old }
+    ensures { wrote result out.new ≡ texture_name_into sheet.now book.now player (keys frames.now values.now slopes.now) material slot out.old }
 {
     let name = menu_readings::texture_name(
         player, sheet, book, frames, values, slopes, material, slot,

@@ -1,10 +1,9 @@
 // What differing keys reach.
 ghost use Rattle.std.specs.Prelude.{◌≡◌};
-ghost use Rattle.edit.specs.Keys.{lent};
+ghost use Rattle.edit.specs.Keys.{keys};
 ghost use Rattle.reach.specs.Calls.{gave_marks, reach_of};
 
-#[unsafe(no_mangle)]
-pub extern "C" fn menu_reach(
+pub fn menu_reach(
     sheet: &[u8],
     book: &[u8],
     frames: &[f32],
@@ -17,7 +16,7 @@ pub extern "C" fn menu_reach(
     channels: &mut [u8],
     panes: &mut [u8],
 ) -> u8
-    ensures { gave_marks result channels.new panes.new ≡ reach_of sheet.now book.now (lent frames.entry values.entry slopes.entry) (lent new_frames.entry new_values.entry new_slopes.entry) animation channels.old panes.old }
+    ensures { gave_marks result channels.new panes.new ≡ reach_of sheet.now book.now (keys frames.now values.now slopes.now) (keys new_frames.now new_values.now new_slopes.now) animation channels.old panes.old }
 {
     reach::reach(
         sheet, book, frames, values, slopes, new_frames, new_values, new_slopes, animation,

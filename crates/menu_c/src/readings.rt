@@ -1,6 +1,6 @@
 // The readings: one channel, all channels, resolving, and the cascade.
 ghost use Rattle.std.specs.Prelude.{◌≡◌};
-ghost use Rattle.edit.specs.Keys.{lent};
+ghost use Rattle.edit.specs.Keys.{keys};
 ghost use Rattle.menu_readings.specs.Readings.{read_pane_of, read_material_of, gave_tables, read_all_of, resolve_pane_of, resolve_srt_of, gave_cascade, cascade_of};
 ghost use Rattle.menu_c.specs.Answers.{read_one_of};
 
@@ -8,8 +8,7 @@ use crate::answers::{ReadOne, flat_reading};
 use menu_readings::{ResolvedPane, ResolvedSrt};
 use player::Player;
 
-#[unsafe(no_mangle)]
-pub extern "C" fn menu_read_pane(
+pub fn menu_read_pane(
     player: Player,
     sheet: &[u8],
     book: &[u8],
@@ -19,15 +18,14 @@ pub extern "C" fn menu_read_pane(
     pane: u16,
     channel: u16,
 ) -> ReadOne
-    ensures { result ≡ read_one_of (read_pane_of sheet.now book.now player (lent frames.entry values.entry slopes.entry) pane channel) }
+    ensures { result ≡ read_one_of (read_pane_of sheet.now book.now player (keys frames.now values.now slopes.now) pane channel) }
 {
     flat_reading(menu_readings::read_pane(
         player, sheet, book, frames, values, slopes, pane, channel,
     ))
 }
 
-#[unsafe(no_mangle)]
-pub extern "C" fn menu_read_material(
+pub fn menu_read_material(
     player: Player,
     sheet: &[u8],
     book: &[u8],
@@ -37,15 +35,14 @@ pub extern "C" fn menu_read_material(
     material: u16,
     channel: u16,
 ) -> ReadOne
-    ensures { result ≡ read_one_of (read_material_of sheet.now book.now player (lent frames.entry values.entry slopes.entry) material channel) }
+    ensures { result ≡ read_one_of (read_material_of sheet.now book.now player (keys frames.now values.now slopes.now) material channel) }
 {
     flat_reading(menu_readings::read_material(
         player, sheet, book, frames, values, slopes, material, channel,
     ))
 }
 
-#[unsafe(no_mangle)]
-pub extern "C" fn menu_read_all(
+pub fn menu_read_all(
     player: Player,
     sheet: &[u8],
     book: &[u8],
@@ -55,13 +52,12 @@ pub extern "C" fn menu_read_all(
     marks: &mut [u8],
     numbers: &mut [f32],
 ) -> u8
-    ensures { gave_tables result marks.new numbers.new ≡ read_all_of sheet.now book.now player (lent frames.entry values.entry slopes.entry) marks.old numbers.old }
+    ensures { gave_tables result marks.new numbers.new ≡ read_all_of sheet.now book.now player (keys frames.now values.now slopes.now) marks.old numbers.old }
 {
     menu_readings::read_all(player, sheet, book, frames, values, slopes, marks, numbers)
 }
 
-#[unsafe(no_mangle)]
-pub extern "C" fn menu_resolve_pane(
+pub fn menu_resolve_pane(
     player: Player,
     sheet: &[u8],
     book: &[u8],
@@ -70,13 +66,12 @@ pub extern "C" fn menu_resolve_pane(
     slopes: &[f32],
     pane: u16,
 ) -> ResolvedPane
-    ensures { result ≡ resolve_pane_of sheet.now book.now player (lent frames.entry values.entry slopes.entry) pane }
+    ensures { result ≡ resolve_pane_of sheet.now book.now player (keys frames.now values.now slopes.now) pane }
 {
     menu_readings::resolve_pane(player, sheet, book, frames, values, slopes, pane)
 }
 
-#[unsafe(no_mangle)]
-pub extern "C" fn menu_resolve_srt(
+pub fn menu_resolve_srt(
     player: Player,
     sheet: &[u8],
     book: &[u8],
@@ -86,13 +81,12 @@ pub extern "C" fn menu_resolve_srt(
     material: u16,
     layer: u16,
 ) -> ResolvedSrt
-    ensures { result ≡ resolve_srt_of sheet.now book.now player (lent frames.entry values.entry slopes.entry) material layer }
+    ensures { result ≡ resolve_srt_of sheet.now book.now player (keys frames.now values.now slopes.now) material layer }
 {
     menu_readings::resolve_srt(player, sheet, book, frames, values, slopes, material, layer)
 }
 
-#[unsafe(no_mangle)]
-pub extern "C" fn menu_cascade(
+pub fn menu_cascade(
     player: Player,
     sheet: &[u8],
     book: &[u8],
@@ -103,7 +97,7 @@ pub extern "C" fn menu_cascade(
     alpha: &mut [f32],
     influence: &mut [f32],
 ) -> u8
-    ensures { gave_cascade result visible.new alpha.new influence.new ≡ cascade_of sheet.now book.now player (lent frames.entry values.entry slopes.entry) visible.old alpha.old influence.old }
+    ensures { gave_cascade result visible.new alpha.new influence.new ≡ cascade_of sheet.now book.now player (keys frames.now values.now slopes.now) visible.old alpha.old influence.old }
 {
     menu_readings::cascade(
         player, sheet, book, frames, values, slopes, visible, alpha, influence,

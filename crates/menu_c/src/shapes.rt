@@ -7,15 +7,13 @@ use corner::points::Corners;
 use corner::{Placed, Turned};
 use float::{Vector2, Vector3};
 
-#[unsafe(no_mangle)]
-pub extern "C" fn menu_uvs(layers: &[f32], srts: &[f32], out: &mut [f32]) -> u8
+pub fn menu_uvs(layers: &[f32], srts: &[f32], out: &mut [f32]) -> u8
     ensures { filled result out.new ≡ uvs_of layers.now srts.now out.old }
 {
     uv::uvs(layers, srts, out)
 }
 
-#[unsafe(no_mangle)]
-pub extern "C" fn menu_corners(
+pub fn menu_corners(
     center: Vector2,
     size: Vector2,
     horizontal: u8,
@@ -27,15 +25,13 @@ pub extern "C" fn menu_corners(
     corner::corners(center, size, horizontal, vertical, rotation)
 }
 
-#[unsafe(no_mangle)]
-pub extern "C" fn menu_translate(corners: Corners, delta: Vector2) -> Placed
+pub fn menu_translate(corners: Corners, delta: Vector2) -> Placed
     ensures { result ≡ moved_of corners delta }
 {
     corner::translate(corners, delta)
 }
 
-#[unsafe(no_mangle)]
-pub extern "C" fn menu_rotate_point(point: Vector2, center: Vector2, rotation: Vector3) -> Turned
+pub fn menu_rotate_point(point: Vector2, center: Vector2, rotation: Vector3) -> Turned
     ensures { result ≡ turned_of point center rotation }
 {
     corner::rotate_point(point, center, rotation)

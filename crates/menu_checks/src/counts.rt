@@ -8,7 +8,7 @@ use laws::refusal::{ACCEPTED, BOOK_LAYOUT, SHEET_LAYOUT};
 
 // A track is a target. Each key array is `keys` long.
 #[repr(C)]
-#[derive(Drop)]
+#[derive(Clone, Copy)]
 pub struct SheetCounts {
     pub refusal: u8,
     pub animations: u16,
@@ -20,7 +20,7 @@ pub struct SheetCounts {
 
 // A whole reading is `channels` long.
 #[repr(C)]
-#[derive(Drop)]
+#[derive(Clone, Copy)]
 pub struct BookCounts {
     pub refusal: u8,
     pub panes: u16,

@@ -1,12 +1,14 @@
 // The rows of the table that look at what a call takes, whatever it does: 1 the sheet, 2 the book, 3 and 4 the keys, 5 the player. The player's row is asked
 // behind n, what the rows before it declined with, and by the outward function itself, which owns the player: the check then reads it where it is, and it
 // isn't copied. What a sheet and a book hold is counted in `counts`.
+#![tactic(auto)]
+
 mod counts;
 
 ghost use Rattle.std.specs.Prelude.{◌≡◌};
 ghost use Rattle.laws.specs.Rows.{declines};
 ghost use Rattle.sheet.specs.Checked.{Checked};
-ghost use Rattle.edit.specs.Keys.{lent};
+ghost use Rattle.edit.specs.Keys.{keys};
 ghost use Rattle.menu_checks.specs.Rows.{sheet_rows, own_rows, broken_rows, keys_rows, book_rows, behind};
 ghost use Rattle.menu_checks.specs.Checks.{KeysReady};
 
@@ -26,7 +28,7 @@ pub fn check_sheet(s: &[u8]) -> u8
 
 // Rows 1, 3 and 4: sheet and keys.
 pub fn check_keys(s: &[u8], frames: &[f32], values: &[f32], slopes: &[f32]) -> u8
-    ensures { result ≡ declines (keys_rows s.now (lent frames.entry values.entry slopes.entry)) }
+    ensures { result ≡ declines (keys_rows s.now (keys frames.now values.now slopes.now)) }
 {
     if !sheet::sheet_ok(s) {
         return SHEET_LAYOUT;
@@ -36,7 +38,7 @@ pub fn check_keys(s: &[u8], frames: &[f32], values: &[f32], slopes: &[f32]) -> u
 
 // Rows 1 to 4: sheet, book and keys.
 pub fn check_book(s: &[u8], b: &[u8], frames: &[f32], values: &[f32], slopes: &[f32]) -> u8
-    ensures { result ≡ declines (book_rows s.now b.now (lent frames.entry values.entry slopes.entry)) }
+    ensures { result ≡ declines (book_rows s.now b.now (keys frames.now values.now slopes.now)) }
 {
     if !sheet::sheet_ok(s) {
         return SHEET_LAYOUT;
@@ -66,8 +68,8 @@ pub fn check_player(n: u8, p: Player, s: &[u8]) -> u8
 
 // Row 5 of a call that takes keys, behind n.
 pub fn check_state(n: u8, p: Player, s: &[u8], frames: &[f32], values: &[f32], slopes: &[f32]) -> u8
-    requires { n ≡ 0 → KeysReady s.now (lent frames values slopes) }
-    ensures { result ≡ behind n (declines (broken_rows s.now p (lent frames.entry values.entry slopes.entry))) }
+    requires { n ≡ 0 → KeysReady s.now (keys frames.now values.now slopes.now) }
+    ensures { result ≡ behind n (declines (broken_rows s.now p (keys frames.now values.now slopes.now))) }
 {
     if n != ACCEPTED {
         return n;

@@ -1,4 +1,8 @@
 // The command line: what its arguments ask is answered on standard output; `menu_cli help` says what there is.
-fn main() {
-    cli_console::start();
+#![tactic(auto)]
+
+use std::process::ExitCode;
+
+fn main(rt: HostRuntime) -> ExitCode {
+    ExitCode::from(cli_console::start(rt))
 }

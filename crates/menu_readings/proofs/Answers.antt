@@ -25,7 +25,7 @@ use Rattle.edit.specs.Keys.{keys}
 use Rattle.edit.specs.Edit.{none}
 use Rattle.player.specs.Parts.{View, view_of}
 use Rattle.menu_checks.specs.Rows.{reading_rows, behind}
-use Rattle.menu_checks.specs.Checks.{reading_behind}
+use Rattle.menu_checks.proofs.Behind.{reading_behind}
 use Rattle.menu_readings.specs.Rows.{tables_rows, cascade_rows, read_all_table, cascade_table}
 use Rattle.menu_readings.specs.Readings.{cascaded_of, gave_cascade, cascade_of, one_of, pane_of, layer_of, no_pane, no_layer, active_in, tables_of, gave_tables, read_all_of}
 use Rattle.menu_readings.specs.declared.single.ReadOne.{ReadOne}

@@ -1,7 +1,7 @@
 // The cascade over the panes, by parent.
 ghost use Rattle.std.specs.Prelude.{◌≡◌};
 ghost use Rattle.laws.specs.Rows.{declines};
-ghost use Rattle.edit.specs.Keys.{lent};
+ghost use Rattle.edit.specs.Keys.{keys};
 ghost use Rattle.book.specs.Checked.{CheckedBook};
 ghost use Rattle.menu_checks.specs.Rows.{behind};
 ghost use Rattle.menu_readings.specs.Rows.{cascade_rows};
@@ -39,7 +39,7 @@ pub fn cascade(
     alpha: &mut [f32],
     influence: &mut [f32],
 ) -> u8
-    ensures { gave_cascade result visible.new alpha.new influence.new ≡ cascade_of s.now b.now p (lent frames.entry values.entry slopes.entry) visible.old alpha.old influence.old }
+    ensures { gave_cascade result visible.new alpha.new influence.new ≡ cascade_of s.now b.now p (keys frames.now values.now slopes.now) visible.old alpha.old influence.old }
 {
     let first = check_book(s, b, frames, values, slopes);
     let n = check_state(first, p, s, frames, values, slopes);

@@ -1,4 +1,6 @@
 // The readings of a player's menu: each looks at its rows of the table in their order, then reads. No call asks anything of its caller.
+#![tactic(auto)]
+
 mod cascaded;
 mod resolved;
 mod single;

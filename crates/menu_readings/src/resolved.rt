@@ -1,6 +1,6 @@
 // Resolving: the override, else the book's; a pane, a material's layer, a material slot's texture name.
 ghost use Rattle.std.specs.Prelude.{◌≡◌};
-ghost use Rattle.edit.specs.Keys.{lent};
+ghost use Rattle.edit.specs.Keys.{keys};
 ghost use Rattle.menu_readings.specs.Readings.{resolve_pane_of, resolve_srt_of, texture_name_of, no_transform, no_pane, no_layer};
 
 use crate::active_in;
@@ -13,7 +13,7 @@ use resolve::Transform;
 
 // A pane's transform, visibility and alpha, the override or else the book's.
 #[repr(C)]
-#[derive(Drop)]
+#[derive(Clone, Copy)]
 pub struct ResolvedPane {
     pub refusal: u8,
     pub visible: bool,
@@ -23,7 +23,7 @@ pub struct ResolvedPane {
 
 // A material layer's SRT likewise.
 #[repr(C)]
-#[derive(Drop)]
+#[derive(Clone, Copy)]
 pub struct ResolvedSrt {
     pub refusal: u8,
     pub srt: Srt,
@@ -67,7 +67,7 @@ pub fn resolve_pane(
     slopes: &[f32],
     pane: u16,
 ) -> ResolvedPane
-    ensures { result ≡ resolve_pane_of s.now b.now p (lent frames.entry values.entry slopes.entry) pane }
+    ensures { result ≡ resolve_pane_of s.now b.now p (keys frames.now values.now slopes.now) pane }
 {
     let first = check_book(s, b, frames, values, slopes);
     let n = check_state(first, p, s, frames, values, slopes);
@@ -113,7 +113,7 @@ pub fn resolve_srt(
     material: u16,
     layer: u16,
 ) -> ResolvedSrt
-    ensures { result ≡ resolve_srt_of s.now b.now p (lent frames.entry values.entry slopes.entry) material layer }
+    ensures { result ≡ resolve_srt_of s.now b.now p (keys frames.now values.now slopes.now) material layer }
 {
     let first = check_book(s, b, frames, values, slopes);
     let n = check_state(first, p, s, frames, values, slopes);
@@ -143,7 +143,7 @@ pub fn texture_name<'a>(
     material: u16,
     slot: u16,
 ) -> &'a [u8]
-    ensures { result.now ≡ texture_name_of s.now b.now p (lent frames.entry values.entry slopes.entry) material slot }
+    ensures { result.now ≡ texture_name_of s.now b.now p (keys frames.now values.now slopes.now) material slot }
 {
     let first = check_book(s, b, frames, values, slopes);
     let n = check_state(first, p, s, frames, values, slopes);

@@ -1,6 +1,6 @@
 // The reading of one channel, of a pane or of a material.
 ghost use Rattle.std.specs.Prelude.{◌≡◌};
-ghost use Rattle.edit.specs.Keys.{lent};
+ghost use Rattle.edit.specs.Keys.{keys};
 ghost use Rattle.menu_readings.specs.Readings.{read_pane_of, read_material_of};
 
 use crate::active_in;
@@ -11,7 +11,7 @@ use player::Player;
 use reading::Reading;
 
 // One channel's reading.
-#[derive(Drop)]
+#[derive(Clone, Copy)]
 pub struct ReadOne {
     pub refusal: u8,
     pub reading: Reading,
@@ -28,7 +28,7 @@ pub fn read_pane(
     pane: u16,
     channel: u16,
 ) -> ReadOne
-    ensures { result ≡ read_pane_of s.now b.now p (lent frames.entry values.entry slopes.entry) pane channel }
+    ensures { result ≡ read_pane_of s.now b.now p (keys frames.now values.now slopes.now) pane channel }
 {
     let first = check_book(s, b, frames, values, slopes);
     let n = check_state(first, p, s, frames, values, slopes);
@@ -64,7 +64,7 @@ pub fn read_material(
     material: u16,
     channel: u16,
 ) -> ReadOne
-    ensures { result ≡ read_material_of s.now b.now p (lent frames.entry values.entry slopes.entry) material channel }
+    ensures { result ≡ read_material_of s.now b.now p (keys frames.now values.now slopes.now) material channel }
 {
     let first = check_book(s, b, frames, values, slopes);
     let n = check_state(first, p, s, frames, values, slopes);

@@ -1,7 +1,7 @@
 // The whole reading: every channel of the book.
 ghost use Rattle.std.specs.Prelude.{◌≡◌};
 ghost use Rattle.laws.specs.Rows.{declines};
-ghost use Rattle.edit.specs.Keys.{lent};
+ghost use Rattle.edit.specs.Keys.{keys};
 ghost use Rattle.book.specs.Checked.{CheckedBook};
 ghost use Rattle.menu_checks.specs.Rows.{behind};
 ghost use Rattle.menu_readings.specs.Rows.{tables_rows};
@@ -38,7 +38,7 @@ pub fn read_all(
     marks: &mut [u8],
     numbers: &mut [f32],
 ) -> u8
-    ensures { gave_tables result marks.new numbers.new ≡ read_all_of s.now b.now p (lent frames.entry values.entry slopes.entry) marks.old numbers.old }
+    ensures { gave_tables result marks.new numbers.new ≡ read_all_of s.now b.now p (keys frames.now values.now slopes.now) marks.old numbers.old }
 {
     let first = check_book(s, b, frames, values, slopes);
     let n = check_state(first, p, s, frames, values, slopes);

@@ -1,7 +1,7 @@
 // A drag: one key is held between its opening and its drop or its abandonment.
 ghost use Rattle.std.specs.Prelude.{◌≡◌};
 ghost use Rattle.sheet.specs.Checked.{Checked};
-ghost use Rattle.edit.specs.Keys.{lent};
+ghost use Rattle.edit.specs.Keys.{keys};
 ghost use Rattle.player.specs.Drag.{no_drag, opened_on, start_of, drop_unchanged, drag_entry, drag_ok, drag_fits};
 ghost use Rattle.player.specs.Dragged.{Draggable, dropped_player};
 ghost use Rattle.player.specs.Parts.{with_drag};
@@ -15,7 +15,7 @@ use edit::spot::{has_key, spot_of};
 
 // `open` while a key is held, `moved` once a drag was accepted; the key's row, and the key as it was at opening. Closed, each is 0.
 #[repr(C)]
-#[derive(Drop)]
+#[derive(Clone, Copy)]
 pub struct Drag {
     pub open: bool,
     pub moved: bool,
@@ -103,8 +103,8 @@ impl Drag {
 
     // Row 5 where keys are taken: an open drag's starting key, put back, keeps the key rules.
     pub fn fits(self, s: &[u8], frames: &[f32], values: &[f32], slopes: &[f32]) -> bool
-        requires { Draggable s.now (lent frames values slopes) self }
-        ensures { result ≡ drag_fits s.now (lent frames.entry values.entry slopes.entry) self }
+        requires { Draggable s.now (keys frames.now values.now slopes.now) self }
+        ensures { result ≡ drag_fits s.now (keys frames.now values.now slopes.now) self }
     {
         if !self.open {
             return true;

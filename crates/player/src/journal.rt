@@ -7,7 +7,7 @@ use curve::Key;
 // How many edits back an undo reaches.
 pub const ROWS: u64 = 128;
 
-#[derive(Drop)]
+#[derive(Clone, Copy)]
 pub struct Entry {
     pub track: u16,
     pub key: u16,
@@ -16,7 +16,7 @@ pub struct Entry {
 }
 
 #[repr(C)]
-#[derive(Drop)]
+#[derive(Clone, Copy)]
 pub struct Journal {
     pub track: [u16; 128],
     pub key: [u16; 128],

@@ -1,4 +1,6 @@
 // The player: what is selected and shown, the journal of the edits that can be undone and redone, and the key that is dragged.
+#![tactic(auto)]
+
 pub mod drag;
 pub mod editing;
 pub mod journal;
@@ -16,7 +18,7 @@ use journal::Journal;
 // `selection` is an animation's number, or NONE. `reach` is how many standing edits can be undone, `redo` how many undone ones can be made
 // again; `standing` counts the edits that stand. Numbers and arrays only, so that the struct passes by value to Rust and C.
 #[repr(C)]
-#[derive(Drop)]
+#[derive(Clone, Copy)]
 pub struct Player {
     pub selection: u16,
     pub playing: bool,
@@ -33,7 +35,7 @@ pub struct Player {
 }
 
 // What a tick answers: nothing moved; the animation goes on; it ended; it ended and names the one that comes next.
-#[derive(Drop)]
+#[derive(Clone, Copy)]
 pub enum Tick {
     Idle,
     Running,

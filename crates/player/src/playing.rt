@@ -9,10 +9,10 @@ ghost use Rattle.player.specs.Ticked.{stepped_of, Selected};
 
 use crate::{Player, Tick};
 use edit::NONE;
-use float::is_finite;
+use float::{is_finite, remainder};
 
 // What a tick answers, and the player after it.
-#[derive(Drop)]
+#[derive(Clone, Copy)]
 pub struct Stepped {
     pub answer: Tick,
     pub player: Player,
@@ -136,7 +136,7 @@ pub fn tick_frame(s: &[u8], a: usize, sum: f32) -> f32
     let count = frame_count(s, a);
     if count <= sum {
         if wraps(s, a) {
-            return sum % count;
+            return remainder(sum, count);
         }
         return count;
     }

@@ -1,6 +1,6 @@
 // Undo and redo: the entry that each takes, and the counts after it. Both are one step over an entry.
 ghost use Rattle.std.specs.Prelude.{◌≡◌, ◌-◌};
-ghost use Rattle.edit.specs.Keys.{lent};
+ghost use Rattle.edit.specs.Keys.{keys};
 ghost use Rattle.player.specs.Undo.{turned, entry_of, takes_ok, take_fits, undone_player, redone_player, taken_player};
 ghost use Rattle.player.specs.Counts.{CanUndo, CanRedo, CanTake};
 ghost use Rattle.player.specs.Takes.{Returnable, Takeable};
@@ -11,7 +11,7 @@ use edit::put::{fits_at, same_key};
 use edit::spot::spot_of;
 
 // Which way an entry is taken.
-#[derive(Drop)]
+#[derive(Clone, Copy)]
 pub enum Way {
     Undo,
     Redo,
@@ -35,8 +35,8 @@ impl Entry {
 
 // Whether an entry may be taken: its key is, bit for bit, as the entry finds it, and may stand there as the entry leaves it.
 fn takes_ok(s: &[u8], frames: &[f32], values: &[f32], slopes: &[f32], e: Entry) -> bool
-    requires { Returnable s.now (lent frames values slopes) e }
-    ensures { result ≡ takes_ok s.now (lent frames.entry values.entry slopes.entry) e }
+    requires { Returnable s.now (keys frames.now values.now slopes.now) e }
+    ensures { result ≡ takes_ok s.now (keys frames.now values.now slopes.now) e }
 {
     let p = spot_of(s, e.track as usize, e.key);
     if !same_key(curve::key_at(frames, values, slopes, p.at), e.before) {
@@ -55,8 +55,8 @@ pub fn take_fits(
     n: u64,
     e: Entry,
 ) -> bool
-    requires { Takeable s.now (lent frames values slopes) n e }
-    ensures { result ≡ take_fits s.now (lent frames.entry values.entry slopes.entry) dragging n e }
+    requires { Takeable s.now (keys frames.now values.now slopes.now) n e }
+    ensures { result ≡ take_fits s.now (keys frames.now values.now slopes.now) dragging n e }
 {
     if dragging {
         return true;

@@ -27,8 +27,7 @@ fn can_compare(
 }
 
 // 2 where track t reads differently at frame x, 1 where it doesn't.
-#[unsafe(no_mangle)]
-pub extern "C" fn probe_apart(
+pub fn probe_apart(
     s: &[u8],
     b: &[u8],
     frames: &[f32],

@@ -1,25 +1,16 @@
 // Whether bytes are a sheet, or a book, whether keys follow the key rules, and loading.
-#[unsafe(no_mangle)]
-pub extern "C" fn probe_sheet_ok(s: &[u8]) -> bool {
+pub fn probe_sheet_ok(s: &[u8]) -> bool {
     sheet::sheet_ok(s)
 }
 
-#[unsafe(no_mangle)]
-pub extern "C" fn probe_book_ok(b: &[u8]) -> bool {
+pub fn probe_book_ok(b: &[u8]) -> bool {
     book::book_ok(b)
 }
 
-#[unsafe(no_mangle)]
-pub extern "C" fn probe_keys_ok(s: &[u8], frames: &[f32], values: &[f32], slopes: &[f32]) -> bool {
+pub fn probe_keys_ok(s: &[u8], frames: &[f32], values: &[f32], slopes: &[f32]) -> bool {
     keys::keys_ok(s, frames, values, slopes)
 }
 
-#[unsafe(no_mangle)]
-pub extern "C" fn probe_load(
-    s: &[u8],
-    frames: &mut [f32],
-    values: &mut [f32],
-    slopes: &mut [f32],
-) -> u8 {
+pub fn probe_load(s: &[u8], frames: &mut [f32], values: &mut [f32], slopes: &mut [f32]) -> u8 {
     keys::load_keys(s, frames, values, slopes)
 }

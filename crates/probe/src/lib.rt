@@ -1,9 +1,11 @@
-// Inner functions, exported so that a program can compare them with the Rust on millions of inputs. No part of the player.
-// An export requires nothing: it tests what the function inside requires, and answers 0 where a test fails. It is proved safe and to end, no more: what it
+// Inner functions, for a program that compares them with the Rust on millions of inputs; `probe_exports` exports them. No part of the player.
+// A probe requires nothing: it tests what the function inside requires, and answers 0 where a test fails. It is proved safe and to end, no more: what it
 // answers is compared, and the function inside has a contract of its own.
-mod apart;
-mod formats;
-mod readings;
+#![tactic(auto)]
+
+pub mod apart;
+pub mod formats;
+pub mod readings;
 
 ghost use Rattle.std.specs.Prelude.{◌≡◌, true};
 ghost use Rattle.float.specs.Rising.{rising};
@@ -44,8 +46,7 @@ fn can_read(kind: u8, frames: &[f32], values: &[f32], slopes: &[f32]) -> bool
     never_falls(frames)
 }
 
-#[unsafe(no_mangle)]
-pub extern "C" fn probe_eval_curve(
+pub fn probe_eval_curve(
     kind: u8,
     frames: &[f32],
     values: &[f32],
@@ -59,8 +60,7 @@ pub extern "C" fn probe_eval_curve(
     }
 }
 
-#[unsafe(no_mangle)]
-pub extern "C" fn probe_eval_curve_step_u16(
+pub fn probe_eval_curve_step_u16(
     kind: u8,
     frames: &[f32],
     values: &[f32],

@@ -67,8 +67,7 @@ fn read_rows(
 }
 
 // The checks and the plan once and then `times` rows, as for a table of frames.
-#[unsafe(no_mangle)]
-pub extern "C" fn probe_read_frames(
+pub fn probe_read_frames(
     s: &[u8],
     b: &[u8],
     frames: &[f32],
@@ -93,8 +92,7 @@ pub extern "C" fn probe_read_frames(
 }
 
 // The checks once and then `times` whole readings, each with a plan of its own.
-#[unsafe(no_mangle)]
-pub extern "C" fn probe_read_times(
+pub fn probe_read_times(
     s: &[u8],
     b: &[u8],
     frames: &[f32],
@@ -130,8 +128,7 @@ pub extern "C" fn probe_read_times(
 }
 
 // Whether it could be read.
-#[unsafe(no_mangle)]
-pub extern "C" fn probe_read_all(
+pub fn probe_read_all(
     s: &[u8],
     b: &[u8],
     frames: &[f32],

@@ -13,7 +13,7 @@ use Rattle.laws.specs.declared.Found.TheVariants as found
 use Rattle.sheet.specs.Sizes.{target_count}
 use Rattle.book.specs.Checked.{CheckedBook}
 use Rattle.channel.specs.Channel.{channel_count, target_channel}
-use Rattle.channel.specs.Within.{target_within}
+use Rattle.channel.proofs.Inside.{target_within}
 use Rattle.reading.specs.Reading.{last_target, no_mark}
 use Rattle.channel.specs.Animation.{other_animation}
 use Rattle.reading.specs.Plan.{no_channel, channel_number, Run, Numbered}

@@ -21,9 +21,10 @@ use Rattle.curve.specs.Keys.{part_of}
 use Rattle.curve.specs.Parts.{part_length, part_at}
 use Rattle.curve.specs.Before.{Held}
 use Rattle.curve.specs.Curve.{kind_constant, eval_part}
-use Rattle.curve.specs.Outside.{outside, picked, Besides, outside_same, picks_same}
+use Rattle.curve.specs.Outside.{outside, picked, Besides, picks_same}
+use Rattle.curve.proofs.Outside.{outside_same}
 use Rattle.reading.specs.Reading.{value_at, value16_at, row_reading, target_reading, last_target, reading}
-use Rattle.reading.specs.LastTarget.{last_target_only}
+use Rattle.reading.proofs.LastTarget.{last_target_only}
 use Rattle.reading.specs.Untouched.{track_reads}
 use Rattle.reading.specs.declared.Active.TheVariants as active
 use Rattle.edit.specs.Keys.{Keys, key_at, HeldKeys}

@@ -22,7 +22,7 @@ use Rattle.curve.specs.Parts.{part_length, part_at, part_before, part_after}
 use Rattle.channel.specs.Channel.{pane_channels, visible_channel, alpha_channel, slot_channel, channel_count, of_pane, of_material}
 use Rattle.channel.specs.Within.{pane_below}
 use Rattle.reading.specs.Reading.{last_target, reading, marks_of, numbers_of}
-use Rattle.reading.specs.LastTarget.{last_target_only}
+use Rattle.reading.proofs.LastTarget.{last_target_only}
 use Rattle.reading.specs.Untouched.{SameKeys, untouched_reads, untouched_whole}
 use Rattle.reading.specs.declared.Active.{Active}
 use Rattle.reading.specs.declared.Active.TheVariants as active
@@ -30,11 +30,12 @@ use Rattle.resolve.specs.Resolve.{transform_of, visible_of, alpha_of, srt_of, te
 use Rattle.resolve.specs.Own.{bit_of}
 use Rattle.resolve.specs.Cascade.{root, cascade}
 use Rattle.resolve.specs.Follow.{follows}
-use Rattle.resolve.specs.Untouched.{transform_same, visible_same, alpha_same, srt_same, texture_same, cascade_untouched}
+use Rattle.resolve.specs.Untouched.{transform_same, visible_same, alpha_same, srt_same, texture_same}
+use Rattle.resolve.proofs.Untouched.{cascade_untouched}
 use Rattle.edit.specs.Keys.{Keys, key_at, put_key, HeldKeys}
 use Rattle.edit.specs.Edit.{has_key, place}
 use Rattle.edit.specs.Put.{has_key_lem}
-use Rattle.edit.specs.Unchanged.{same_key_equal, at_held}
+use Rattle.edit.proofs.Unchanged.{same_key_equal, at_held}
 use Rattle.reach.specs.Touched.{same_at, same_track, touched, channel_marks, marked, visible_marked, alpha_marked, own_marked, pane_mark, pane_marks}
 use Rattle.reach.specs.Ready.{Compared}
 

@@ -13,11 +13,13 @@ use Rattle.book.specs.Checked.{CheckedBook}
 use Rattle.channel.specs.Channel.{pane_channels, visible_channel, alpha_channel, slot_channel, channel_count, of_pane, of_material, target_channel}
 use Rattle.channel.specs.Animation.{target_animation, other_animation}
 use Rattle.reading.specs.Reading.{marks_of, numbers_of}
-use Rattle.reading.specs.Untouched.{Untouched, untouched_reads, untouched_whole, not_addressed, decided_later}
+use Rattle.reading.specs.Untouched.{Untouched, untouched_reads, untouched_whole}
+use Rattle.reading.proofs.Untouched.{not_addressed, decided_later}
 use Rattle.reading.specs.declared.Active.TheVariants as active
 use Rattle.resolve.specs.Resolve.{transform_of, visible_of, alpha_of, srt_of, texture_of}
 use Rattle.resolve.specs.Cascade.{root, cascade}
-use Rattle.resolve.specs.Untouched.{transform_same, visible_same, alpha_same, srt_same, texture_same, AtOrBelow, cascade_elsewhere, cascade_same}
+use Rattle.resolve.specs.Untouched.{transform_same, visible_same, alpha_same, srt_same, texture_same, AtOrBelow}
+use Rattle.resolve.proofs.Untouched.{cascade_elsewhere, cascade_same}
 use Rattle.edit.specs.Keys.{Keys}
 use Rattle.reach.specs.Law.{SameTrack, SameReading}
 

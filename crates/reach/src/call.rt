@@ -4,7 +4,7 @@ ghost use Rattle.laws.specs.Rows.{declines};
 ghost use Rattle.sheet.specs.Checked.{Checked};
 ghost use Rattle.book.specs.Checked.{CheckedBook};
 ghost use Rattle.keys.specs.Load.{lengths_ok};
-ghost use Rattle.edit.specs.Keys.{lent};
+ghost use Rattle.edit.specs.Keys.{keys};
 ghost use Rattle.reach.specs.Calls.{reach_table, gave_marks, reach_of};
 ghost use Rattle.reach.specs.Ready.{keys_rows, output_rows};
 
@@ -34,7 +34,7 @@ fn keys_refusal(
     new_slopes: &[f32],
 ) -> u8
     requires { Checked s.now }
-    ensures { result ≡ declines (keys_rows s.now (lent frames.entry values.entry slopes.entry) (lent new_frames.entry new_values.entry new_slopes.entry)) }
+    ensures { result ≡ declines (keys_rows s.now (keys frames.now values.now slopes.now) (keys new_frames.now new_values.now new_slopes.now)) }
 {
     if !arrays_long(s, frames, values, slopes) {
         return KEY_ARRAY_LENGTH;
@@ -80,7 +80,7 @@ fn reach_refusal(
     channels: &[u8],
     panes: &[u8],
 ) -> u8
-    ensures { result ≡ declines (reach_table s.now b.now (lent frames.entry values.entry slopes.entry) (lent new_frames.entry new_values.entry new_slopes.entry) animation channels.now panes.now) }
+    ensures { result ≡ declines (reach_table s.now b.now (keys frames.now values.now slopes.now) (keys new_frames.now new_values.now new_slopes.now) animation channels.now panes.now) }
 {
     if !sheet::sheet_ok(s) {
         return SHEET_LAYOUT;
@@ -112,7 +112,7 @@ pub fn reach(
     channels: &mut [u8],
     panes: &mut [u8],
 ) -> u8
-    ensures { gave_marks result channels.new panes.new ≡ reach_of s.now b.now (lent frames.entry values.entry slopes.entry) (lent new_frames.entry new_values.entry new_slopes.entry) animation channels.old panes.old }
+    ensures { gave_marks result channels.new panes.new ≡ reach_of s.now b.now (keys frames.now values.now slopes.now) (keys new_frames.now new_values.now new_slopes.now) animation channels.old panes.old }
 {
     let n = reach_refusal(
         s, b, frames, values, slopes, new_frames, new_values, new_slopes, animation, channels,

@@ -4,7 +4,7 @@ ghost use Rattle.laws.specs.Table.{table};
 ghost use Rattle.channel.specs.Channel.{channel_count};
 ghost use Rattle.reading.specs.Reading.{no_mark};
 ghost use Rattle.reading.specs.Plan.{Planned};
-ghost use Rattle.edit.specs.Keys.{lent};
+ghost use Rattle.edit.specs.Keys.{keys};
 ghost use Rattle.reach.specs.Touched.{channel_marks};
 ghost use Rattle.reach.specs.Ready.{ComparedIn};
 
@@ -40,9 +40,9 @@ fn sweep(
     new_slopes: &[f32],
     channels: &mut [u8],
 )
-    requires compared_in { ComparedIn s.now b.now (lent frames values slopes) (lent new_frames new_values new_slopes) × Planned s.now b.now p numbers.now }
+    requires compared_in { ComparedIn s.now b.now (keys frames.now values.now slopes.now) (keys new_frames.now new_values.now new_slopes.now) × Planned s.now b.now p numbers.now }
     requires channels_value { channels.old ≡ table (channel_count b.now) no_mark }
-    ensures { channels.new ≡ channel_marks s.now b.now (lent frames.entry values.entry slopes.entry) (lent new_frames.entry new_values.entry new_slopes.entry) p.animation }
+    ensures { channels.new ≡ channel_marks s.now b.now (keys frames.now values.now slopes.now) (keys new_frames.now new_values.now new_slopes.now) p.animation }
 {
     let mut next = p.from;
     while next < p.to {
@@ -72,8 +72,8 @@ pub fn touched_channels(
     a: usize,
     channels: &mut [u8],
 )
-    requires { ComparedIn s.now b.now (lent frames values slopes) (lent new_frames new_values new_slopes) × (length channels.old ≡ channel_count b.now) }
-    ensures { channels.new ≡ channel_marks s.now b.now (lent frames.entry values.entry slopes.entry) (lent new_frames.entry new_values.entry new_slopes.entry) a }
+    requires { ComparedIn s.now b.now (keys frames.now values.now slopes.now) (keys new_frames.now new_values.now new_slopes.now) × (length channels.old ≡ channel_count b.now) }
+    ensures { channels.new ≡ channel_marks s.now b.now (keys frames.now values.now slopes.now) (keys new_frames.now new_values.now new_slopes.now) a }
 {
     let mut numbers = [0u16; MOST_TARGETS];
     let p = plan_of(s, b, a, &mut numbers);

@@ -1,4 +1,6 @@
 // What differing keys reach: of two sets of keys of one sheet, the channels and panes that can read differently.
+#![tactic(auto)]
+
 mod call;
 mod channels;
 mod compared;

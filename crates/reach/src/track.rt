@@ -1,7 +1,7 @@
 // Whether a track has the same keys in two sets of keys of one sheet, bit for bit.
 ghost use Rattle.std.specs.Prelude.{◌≡◌, ◌+◌, ◌<◌};
 ghost use Rattle.sheet.specs.Sizes.{target_count};
-ghost use Rattle.edit.specs.Keys.{lent};
+ghost use Rattle.edit.specs.Keys.{keys};
 ghost use Rattle.reach.specs.Touched.{same_track};
 ghost use Rattle.reach.specs.Ready.{Compared, HasKeys, same_part};
 
@@ -18,8 +18,8 @@ fn same_part(
     first: usize,
     count: usize,
 ) -> bool
-    requires { HasKeys (lent frames values slopes) (first + count) × HasKeys (lent new_frames new_values new_slopes) (first + count) }
-    ensures { result ≡ same_part (lent frames.entry values.entry slopes.entry) (lent new_frames.entry new_values.entry new_slopes.entry) first count }
+    requires { HasKeys (keys frames.now values.now slopes.now) (first + count) × HasKeys (keys new_frames.now new_values.now new_slopes.now) (first + count) }
+    ensures { result ≡ same_part (keys frames.now values.now slopes.now) (keys new_frames.now new_values.now new_slopes.now) first count }
 {
     let mut i = 0;
     while i < count {
@@ -44,8 +44,8 @@ pub fn same_track(
     new_slopes: &[f32],
     t: usize,
 ) -> bool
-    requires { Compared s.now (lent frames values slopes) (lent new_frames new_values new_slopes) × (t < target_count s.now) }
-    ensures { result ≡ same_track s.now (lent frames.entry values.entry slopes.entry) (lent new_frames.entry new_values.entry new_slopes.entry) t }
+    requires { Compared s.now (keys frames.now values.now slopes.now) (keys new_frames.now new_values.now new_slopes.now) × (t < target_count s.now) }
+    ensures { result ≡ same_track s.now (keys frames.now values.now slopes.now) (keys new_frames.now new_values.now new_slopes.now) t }
 {
     let row = sheet::target_row(s, t);
     same_part(

@@ -15,7 +15,7 @@ use Rattle.sheet.specs.declared.rows.Target.{Target}
 use Rattle.book.specs.Checked.{CheckedBook}
 use Rattle.channel.specs.Channel.{family_of, channel_count, target_channel}
 use Rattle.channel.specs.Animation.{other_animation}
-use Rattle.channel.specs.Within.{target_within}
+use Rattle.channel.proofs.Inside.{target_within}
 use Rattle.channel.specs.declared.Family.{Family}
 use Rattle.reading.specs.Reading.{value_at, value16_at, read_as, row_reading, target_reading, last_target, reading_of, reading, mark_of, number_of, marks_of, numbers_of, no_mark, no_number}
 use Rattle.reading.specs.Ready.{Ready, ReadyRow, ready_row}

@@ -5,7 +5,7 @@ use Rattle.laws.specs.declared.Found.{Found}
 use Rattle.laws.specs.declared.Found.TheVariants as found
 use Rattle.book.specs.Checked.{CheckedBook}
 use Rattle.channel.specs.Channel.{channel_count, target_channel}
-use Rattle.channel.specs.Within.{target_within}
+use Rattle.channel.proofs.Inside.{target_within}
 use Rattle.reading.specs.Plan.{no_channel, channel_number}
 
 -- a channel's number is below that of none

@@ -21,7 +21,7 @@ pub const NO_CHANNEL: u16 = 65535;
 const MANY: usize = 12;
 
 // The targets of an animation are those from `from` up to `to`. The channel of each is in a lent array, at the target's number.
-#[derive(Drop)]
+#[derive(Clone, Copy)]
 pub struct Plan {
     pub animation: usize,
     pub from: usize,

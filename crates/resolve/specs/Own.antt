@@ -12,7 +12,8 @@ use Rattle.sheet.specs.declared.rows.Target.{Target}
 use Rattle.book.specs.Sizes.{pane_count}
 use Rattle.book.specs.Rows.{pane_row}
 use Rattle.channel.specs.Channel.{visible_channel, alpha_channel, family_of, pane_channel, pane_channels, of_pane, active_reach, target_channel}
-use Rattle.channel.specs.Place.{is_pane, pane_hit}
+use Rattle.channel.specs.Place.{is_pane}
+use Rattle.channel.proofs.Places.{pane_hit}
 use Rattle.channel.specs.declared.Reached.{Reached}
 use Rattle.channel.specs.declared.Reached.TheVariants as reached
 use Rattle.reading.specs.Reading.{last_target}

@@ -1,4 +1,6 @@
 // Channels resolved over the book, and the cascade over its panes (document 01, "Channels").
+#![tactic(auto)]
+
 mod name;
 mod over;
 mod own;
@@ -11,7 +13,7 @@ pub use rows::cascade;
 
 // The Rust's ResolvedPaneTransform.
 #[repr(C)]
-#[derive(Drop)]
+#[derive(Clone, Copy)]
 pub struct Transform {
     pub translation: Vector3,
     pub rotation: Vector3,
@@ -20,7 +22,7 @@ pub struct Transform {
 }
 
 // What the cascade gives a pane: whether it is shown, its alpha, and the influence that it hands its children.
-#[derive(Drop)]
+#[derive(Clone, Copy)]
 pub struct Cascaded {
     pub visible: bool,
     pub alpha: f32,

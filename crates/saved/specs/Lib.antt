@@ -1,3 +1,2 @@
--- A sheet written with other keys, and what it reads back as.
+-- A sheet written with other keys.
 pub mod Saved
-pub mod Back

@@ -1,4 +1,6 @@
 // A sheet written from its bytes and other keys: everything but the two key arrays is copied, the arrays are the keys.
+#![tactic(auto)]
+
 ghost use Rattle.std.specs.Prelude.{◌≡◌, ◌*◌, length};
 ghost use Rattle.field.specs.Write.{float_bytes};
 ghost use Rattle.saved.specs.Saved.{points_of, saved_of, Finite, Savable};
@@ -39,7 +41,7 @@ pub fn write_sheet(s: &[u8], frames: &[f32], values: &[f32], slopes: &[f32], out
 {
     let at = keys::frames_at(s);
     let points = keys::points_at(s);
-    bytes::copy(&s[..at], out);
+    field::copy(&s[..at], out);
     put_floats(frames, &mut out[at..points]);
     put_points(values, slopes, &mut out[points..]);
 }

@@ -1,4 +1,6 @@
 // The sheet: a lent slice of bytes that holds animations, contents, targets, texture names and keys.
+#![tactic(auto)]
+
 mod layout;
 mod rows;
 

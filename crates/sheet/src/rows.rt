@@ -22,20 +22,20 @@ pub const KEY_BYTES: usize = 12;
 // Where the name stands in an animation's row and in a content's.
 pub const ROW_NAME: usize = 4;
 
-#[derive(Drop)]
+#[derive(Clone, Copy)]
 pub struct Animation {
     pub frames: u16,
     pub looping: bool,
     pub next: bool,
 }
 
-#[derive(Drop)]
+#[derive(Clone, Copy)]
 pub struct Content {
     pub animation: usize,
     pub kind: usize,
 }
 
-#[derive(Drop)]
+#[derive(Clone, Copy)]
 pub struct Target {
     pub content: usize,
     pub layer: usize,

@@ -1,5 +1,7 @@
 // UVs (document 01, "UVs and corners"), as the Rust's anim_state.rs and pane_tree.rs have them.
 // The call from outside asks nothing of its arguments: it answers a refusal's number, 0 for none, and on a refusal the output stays as it was.
+#![tactic(auto)]
+
 mod block;
 mod checks;
 

@@ -2,14 +2,22 @@
 // In oracle/, `cargo run --release -p cases --bin store -- ../crates` makes all of data/ again, from seeds that stand there:
 // a family's files have the Rust's answers; ten are changed in each that is called wrong, and the last files are no whole samples.
 // A sample is a family's number, three zero bytes, how many cases follow (u32), and the family's records.
+#![tactic(auto)]
+
 mod corners;
 mod curves;
 mod formats;
 mod sample;
 mod uvs;
 
-use libc::STDOUT_FILENO;
+ghost use Rattle.std.specs.Prelude.{◌≤◌, length};
+
 use sample::{Step, past};
+use std::env::FillError;
+use std::fs::File;
+use std::io;
+use std::io::{ErrorKind, Print, Read};
+use std::rt::Env;
 
 // The families, by the numbers that stand in a sample's first byte.
 const CURVES: u8 = 1;
@@ -29,7 +37,7 @@ const HEAD: usize = 8;
 const LONGEST: usize = 65536;
 
 // A sample replayed: its cases, and how many of them differ.
-#[derive(Drop)]
+#[derive(Clone, Copy)]
 struct Tally {
     whole: bool,
     cases: usize,
@@ -78,69 +86,113 @@ fn replayed(s: &[u8]) -> Tally {
     }
 }
 
-fn say(text: &[u8]) {
-    io::write_all(STDOUT_FILENO, text);
+fn say(rt: HostRuntime, text: &[u8]) {
+    let _ = rt.stdout().write_all(text);
 }
 
-fn say_count(n: usize, what: &[u8]) {
-    say(b" ");
-    io::print_decimal(STDOUT_FILENO, n as u64);
-    say(what);
+fn say_count(rt: HostRuntime, n: usize, what: &[u8]) {
+    say(rt, b" ");
+    let _ = rt.stdout().print(n);
+    say(rt, what);
 }
 
-fn say_family(family: u8) {
+fn say_family(rt: HostRuntime, family: u8) {
     match family {
-        CURVES => say(b"curves"),
-        SHEETS => say(b"sheets"),
-        BOOKS => say(b"books"),
-        UVS => say(b"uvs"),
-        CORNERS => say(b"corners"),
-        _ => say(b"unknown"),
+        CURVES => say(rt, b"curves"),
+        SHEETS => say(rt, b"sheets"),
+        BOOKS => say(rt, b"books"),
+        UVS => say(rt, b"uvs"),
+        CORNERS => say(rt, b"corners"),
+        _ => say(rt, b"unknown"),
     }
 }
 
 // One line: a whole sample's family and counts.
-fn say_tally(family: u8, t: Tally) {
+fn say_tally(rt: HostRuntime, family: u8, t: Tally) {
     if !t.whole {
-        say(b"no whole sample\n");
+        say(rt, b"no whole sample\n");
         return;
     }
-    say_family(family);
-    say_count(t.cases, b" cases");
-    say_count(t.differ, b" differ\n");
+    say_family(rt, family);
+    say_count(rt, t.cases, b" cases");
+    say_count(rt, t.differ, b" differ\n");
+}
+
+// How many arguments there are, the program's own name among them.
+fn arg_count(rt: HostRuntime) -> usize {
+    for i in 0..usize::MAX {
+        if let Err(FillError::NotPresent) = rt.arg(i, &mut []) {
+            return i;
+        }
+    }
+    usize::MAX
+}
+
+// Argument i at the front of a buffer, and how long it is; 0 where the buffer has no room for it.
+fn argument(rt: HostRuntime, i: usize, out: &mut [u8]) -> usize
+    ensures { result ≤ length out.new }
+{
+    match rt.arg(i, out) {
+        Ok(n) => n,
+        Err(_) => 0,
+    }
+}
+
+// A file by a name, which is UTF-8 here.
+fn opened(rt: HostRuntime, path: &[u8]) -> io::Result<File> {
+    match std::str::from_utf8(path) {
+        Ok(name) => File::open(&rt, name),
+        Err(_) => Err(io::Error::from(ErrorKind::InvalidInput)),
+    }
+}
+
+// What is read, to the end of the file or of buf; a read that fails ends it too.
+fn read_full(file: &mut File, buf: &mut [u8]) -> usize
+    ensures { result ≤ length buf.new }
+{
+    let mut done = 0;
+    while done < buf.len() {
+        let got = match file.read(&mut buf[done..]) {
+            Ok(got) => got,
+            Err(_) => 0,
+        };
+        if got == 0 {
+            return done;
+        }
+        done += got;
+    }
+    done
 }
 
 // The sample in a file that argument i names; what cannot be read whole is told.
-fn replay_file(i: usize) {
-    let mut path = io::buffer();
-    let n = os::arg(i, &mut path);
-    say(&path[..n]);
-    say(b": ");
-    let fd = os::open_read(&path[..n]);
-    if fd < 0 {
-        say(b"cannot be opened\n");
+fn replay_file(rt: HostRuntime, i: usize) {
+    let mut path = [0u8; 4096];
+    let n = argument(rt, i, &mut path);
+    say(rt, &path[..n]);
+    say(rt, b": ");
+    let Ok(mut file) = opened(rt, &path[..n]) else {
+        say(rt, b"cannot be opened\n");
         return;
-    }
+    };
     let mut bytes = [0u8; 65537];
-    let got = io::read_full(fd, &mut bytes);
-    libc::close(fd);
+    let got = read_full(&mut file, &mut bytes);
     if got > LONGEST {
-        say(b"too long\n");
+        say(rt, b"too long\n");
         return;
     }
     if got < HEAD {
-        say(b"no whole sample\n");
+        say(rt, b"no whole sample\n");
         return;
     }
-    say_tally(bytes[0], replayed(&bytes[..got]));
+    say_tally(rt, bytes[0], replayed(&bytes[..got]));
 }
 
 // A line for each argument.
-fn main() {
-    let end = os::arg_count();
+fn main(rt: HostRuntime) {
+    let end = arg_count(rt);
     let mut i = 1;
     while i < end {
-        replay_file(i);
+        replay_file(rt, i);
         i += 1;
     }
 }

@@ -3,7 +3,7 @@
 ghost use Rattle.std.specs.Prelude.{◌<◌};
 
 // One record replayed: its bytes, its cases, and how many of them differ. A damaged record has no bytes.
-#[derive(Drop)]
+#[derive(Clone, Copy)]
 pub struct Step {
     pub size: usize,
     pub cases: usize,

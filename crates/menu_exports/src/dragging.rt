@@ -1,0 +1,63 @@
+// Dragging a key.
+ghost use Rattle.std.specs.Prelude.{◌≡◌};
+ghost use Rattle.edit.specs.Keys.{keys};
+ghost use Rattle.menu.specs.Calls.{gave, gave_edit, open_of, drag_of, drop_of, abandon_of};
+
+use menu::{Edited, Played};
+use player::Player;
+
+#[unsafe(no_mangle)]
+pub extern "C" fn menu_open_drag(
+    player: Player,
+    sheet: &[u8],
+    frames: &[f32],
+    values: &[f32],
+    slopes: &[f32],
+    track: u16,
+    key: u16,
+) -> Played
+    ensures { result ≡ open_of sheet.now player (keys frames.now values.now slopes.now) track key }
+{
+    menu_c::dragging::menu_open_drag(player, sheet, frames, values, slopes, track, key)
+}
+
+#[unsafe(no_mangle)]
+pub extern "C" fn menu_drag(
+    player: Player,
+    sheet: &[u8],
+    frames: &mut [f32],
+    values: &mut [f32],
+    slopes: &mut [f32],
+    frame: f32,
+    value: f32,
+) -> Edited
+    ensures { gave_edit result (keys frames.new values.new slopes.new) ≡ drag_of sheet.now player (keys frames.old values.old slopes.old) frame value }
+{
+    menu_c::dragging::menu_drag(player, sheet, frames, values, slopes, frame, value)
+}
+
+#[unsafe(no_mangle)]
+pub extern "C" fn menu_drop_drag(
+    player: Player,
+    sheet: &[u8],
+    frames: &[f32],
+    values: &[f32],
+    slopes: &[f32],
+) -> Edited
+    ensures { result ≡ drop_of sheet.now player (keys frames.now values.now slopes.now) }
+{
+    menu_c::dragging::menu_drop_drag(player, sheet, frames, values, slopes)
+}
+
+#[unsafe(no_mangle)]
+pub extern "C" fn menu_abandon_drag(
+    player: Player,
+    sheet: &[u8],
+    frames: &mut [f32],
+    values: &mut [f32],
+    slopes: &mut [f32],
+) -> Played
+    ensures { gave result (keys frames.new values.new slopes.new) ≡ abandon_of sheet.now player (keys frames.old values.old slopes.old) }
+{
+    menu_c::dragging::menu_abandon_drag(player, sheet, frames, values, slopes)
+}

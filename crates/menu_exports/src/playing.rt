@@ -1,0 +1,42 @@
+// Loading, play, pose and tick.
+ghost use Rattle.std.specs.Prelude.{◌≡◌};
+ghost use Rattle.edit.specs.Keys.{keys};
+ghost use Rattle.menu.specs.Calls.{gave, loaded_of, play_of, pose_of, tick_of};
+ghost use Rattle.menu_c.specs.Answers.{ticked_of};
+
+use menu::Played;
+use menu_c::Ticked;
+use player::Player;
+
+#[unsafe(no_mangle)]
+pub extern "C" fn menu_load(
+    sheet: &[u8],
+    frames: &mut [f32],
+    values: &mut [f32],
+    slopes: &mut [f32],
+) -> Played
+    ensures { gave result (keys frames.new values.new slopes.new) ≡ loaded_of sheet.now (keys frames.old values.old slopes.old) }
+{
+    menu_c::playing::menu_load(sheet, frames, values, slopes)
+}
+
+#[unsafe(no_mangle)]
+pub extern "C" fn menu_play(player: Player, sheet: &[u8], animation: u16) -> Played
+    ensures { result ≡ play_of sheet.now player animation }
+{
+    menu_c::playing::menu_play(player, sheet, animation)
+}
+
+#[unsafe(no_mangle)]
+pub extern "C" fn menu_pose(player: Player, sheet: &[u8], animation: u16, frame: f32) -> Played
+    ensures { result ≡ pose_of sheet.now player animation frame }
+{
+    menu_c::playing::menu_pose(player, sheet, animation, frame)
+}
+
+#[unsafe(no_mangle)]
+pub extern "C" fn menu_tick(player: Player, sheet: &[u8], dt: f32, fps: f32) -> Ticked
+    ensures { result ≡ ticked_of (tick_of sheet.now player dt fps) }
+{
+    menu_c::playing::menu_tick(player, sheet, dt, fps)
+}

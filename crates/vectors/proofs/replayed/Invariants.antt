@@ -1,0 +1,9 @@
+-- `replayed` stays inside its slices. All records of a sample.
+use Rattle.std.proofs.Common.{◌-◌, length}
+use Rattle.vectors.proofs.replayed.Given as goal
+
+abbrev pub invariant-loop-at : goal.invariant-loop-at
+invariant-loop-at l = Unit {0}
+
+abbrev pub decreases-loop-at : goal.decreases-loop-at
+decreases-loop-at l = length l.s - l.at
