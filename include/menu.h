@@ -1,6 +1,6 @@
 /* Dovebolt: the outward calls of the proved menu player, for C.
  *
- * Link target/staticlib/libmenu_c.a, which `rt staticlib menu_c` writes (x86-64 Linux).
+ * Link target/staticlib/libmenu_c.a, which `tools/archives` writes (x86-64 Linux, SSE4.2).
  *
  * A sheet holds the animations, a book the panes and materials that they move. A slice is a pointer and a length in
  * elements. A call asks only that a pointer has that many elements (any pointer will do for none), and that no output

@@ -1,4 +1,4 @@
-//! Links the proved code: the archive that `rt staticlib menu_c` writes.
+//! Links the proved code: the archive libmenu_c.a that `tools/archives` writes.
 
 use std::env;
 use std::path::{Path, PathBuf};
@@ -14,7 +14,7 @@ fn main() {
     let archive = folder.join("libmenu_c.a");
     assert!(
         archive.is_file(),
-        "the proved library is missing: {} is no file. Run `rt staticlib menu_c` in the repository's root, \
+        "the proved library is missing: {} is no file. Run `tools/archives` in the repository's root, \
          or name the folder that holds libmenu_c.a in {FOLDER}.",
         archive.display()
     );

@@ -1,7 +1,7 @@
 /* Plays an animation and prints for each frame the panes that are shown, each with its alpha. Then edits a key, takes the
  * edit back, and says each time whether a saved sheet has the bytes of the loaded one. Arrays are sized by the library.
  *
- * In the repository's root, after `rt staticlib menu_c`:
+ * In the repository's root, after `tools/archives`:
  *
  *     cc -std=c99 -Wall -Wextra -I include examples/c/play.c target/staticlib/libmenu_c.a -lm -o play
  *     ./play samples/title.sheet samples/title.book 0

@@ -1,4 +1,4 @@
-//! Links the proved code: the archive that `rt staticlib probe` writes.
+//! Links the proved code: the archive libprobe.a that `tools/archives` writes.
 
 use std::path::Path;
 
@@ -8,7 +8,7 @@ fn main() {
     let archive = Path::new(ARCHIVES).join("libprobe.a");
     if !archive.is_file() {
         println!(
-            "cargo::error=the proved library is missing: run `rt staticlib probe` in the repository's root"
+            "cargo::error=the proved library is missing: run `tools/archives` in the repository's root"
         );
         return;
     }

@@ -1,5 +1,6 @@
 //! The command line from outside: the starter `menu_cli` is run on the samples and on files that are made here, and what it
-//! prints is held against docs/FORMAT.md's offsets and against what this package answers. `rt check menu_cli` builds it.
+//! prints is held against docs/FORMAT.md's offsets and against what this package answers. In the repository's root,
+//! `(cd crates/menu_cli && rt run -- version)` builds it.
 
 #[path = "command_line/broken_books.rs"]
 mod broken_books;

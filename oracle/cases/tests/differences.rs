@@ -179,7 +179,11 @@ fn an_edit_to_an_infinite_frame() {
 /// Refused with 8: the text stores the held value.
 #[test]
 fn a_step_edit_to_an_infinite_value() {
-    for (value, held) in [(f32::INFINITY, 65535.0), (f32::NEG_INFINITY, 0.0), (f32::NAN, 0.0)] {
+    for (value, held) in [
+        (f32::INFINITY, 65535.0),
+        (f32::NEG_INFINITY, 0.0),
+        (f32::NAN, 0.0),
+    ] {
         let (mut reference, _) = with_frames([0.0, 4.0, 8.0]);
         reference.edit(0, 1, 1, Request::Key { frame: 1.0, value });
         assert_eq!(reference.key(1, 1)[1], held);
@@ -190,7 +194,13 @@ fn a_step_edit_to_an_infinite_value() {
 #[test]
 fn an_angle_above_the_limit() {
     let rotate = f32::from_bits(0x4561_0001);
-    let srt = MaterialTextureSrt { translate_u: 0.0, translate_v: 0.0, rotate, scale_u: 1.0, scale_v: 1.0 };
+    let srt = MaterialTextureSrt {
+        translate_u: 0.0,
+        translate_v: 0.0,
+        rotate,
+        scale_u: 1.0,
+        scale_v: 1.0,
+    };
     let [u, v] = transform_uv_srt(&srt, [1.0, 0.0]);
     assert!((u - 1.0).abs() < 1e-5 && v.abs() < 1e-5);
 }
@@ -199,6 +209,11 @@ fn an_angle_above_the_limit() {
 #[test]
 fn a_corner_that_is_a_nan() {
     let zero = Vector2f::new(0.0, 0.0);
-    let corners = Corners { top_left: Vector2f::new(f32::NAN, 0.0), top_right: zero, bottom_left: zero, bottom_right: zero };
+    let corners = Corners {
+        top_left: Vector2f::new(f32::NAN, 0.0),
+        top_right: zero,
+        bottom_left: zero,
+        bottom_right: zero,
+    };
     assert!(corners.translate(Vector2f::new(1.0, 1.0)).to_array()[0][0].is_nan());
 }

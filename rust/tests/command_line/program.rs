@@ -24,14 +24,20 @@ pub fn sample_bytes(name: &str) -> Vec<u8> {
     fs::read(&path).unwrap_or_else(|e| panic!("{}: {e}", path.display()))
 }
 
-/// The starter. A test of a program that isn't there fails, since it would try nothing.
-pub fn starter() -> PathBuf {
-    let program = root().join("target/bin/menu_cli");
+/// The program that the starter starts. A test of a program that isn't there fails, since it would try nothing.
+pub fn program() -> PathBuf {
+    let program = root().join("crates/menu_cli/out/menu_cli");
     assert!(
         program.is_file(),
-        "{} is not built: run `rt check menu_cli` in the repository's root",
+        "{} is not built: run `(cd crates/menu_cli && rt run -- version)` in the repository's root",
         program.display()
     );
+    program
+}
+
+/// The starter of a program that is built.
+pub fn starter() -> PathBuf {
+    program();
     root().join("menu_cli")
 }
 

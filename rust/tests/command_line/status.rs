@@ -7,7 +7,8 @@ use std::path::Path;
 use std::process::Command;
 
 use crate::program::{
-    Ran, file, folder, replay, root, run, run_command, sample, sample_bytes, starter, words,
+    Ran, file, folder, program, replay, root, run, run_command, sample, sample_bytes, starter,
+    words,
 };
 
 /// A sheet and a book that are declined, in a folder of their own.
@@ -191,7 +192,8 @@ fn of_more_words_than_there_is_room_for() {
     assert!(ran.err.starts_with("error: "), "{}", ran.err);
 }
 
-/// Another program's descriptors are left alone: nothing but standard output and standard error is written to.
+/// The status is the program's own: started by itself it ends and writes as with the starter. Nothing of the status is
+/// written: descriptors but those of output and errors, which may be another program's, get nothing.
 #[test]
 fn the_status_is_no_output() {
     let sheet = sample("title.sheet");
@@ -199,6 +201,23 @@ fn the_status_is_no_output() {
     let ran = shell(r#""$@" 3> /dev/full 4> /dev/full"#, &list);
     assert_eq!((ran.status, ran.err.as_str()), (0, ""));
     assert_eq!(ran.lines().len(), 1);
+
+    let folder = folder("no_output");
+    damaged(&folder);
+    let sheets = [("title.sheet", 0), ("damaged.sheet", 1), ("none.sheet", 2)];
+    for (sheet, status) in sheets {
+        let [started, alone] = [starter(), program()].map(|command| {
+            let line = r#""$@" 3> third 4> fourth"#;
+            let mut shell = Command::new("sh");
+            shell.args(["-c", line, "sh"]).arg(command);
+            run_command(shell.args(["check", sheet]).current_dir(&folder))
+        });
+        assert_eq!((started.status, alone.status), (status, status), "{sheet}");
+        assert_eq!((&started.out, &started.err), (&alone.out, &alone.err));
+        for name in ["third", "fourth"] {
+            assert_eq!(fs::read(folder.join(name)).unwrap(), b"", "{sheet}: {name}");
+        }
+    }
 }
 
 #[test]
@@ -210,7 +229,8 @@ fn nothing_is_built() {
     assert_eq!((ran.status, ran.text()), (2, ""));
     assert!(ran.err.starts_with("error: "), "{}", ran.err);
     assert!(
-        ran.err.contains("run rt check menu_cli first"),
+        ran.err
+            .contains("run (cd crates/menu_cli && rt run -- version) first"),
         "{}",
         ran.err
     );
