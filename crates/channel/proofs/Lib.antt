@@ -1,4 +1,4 @@
--- The laws that the proofs of this crate cite.
+-- Where a channel stands; that it is one of the book's; the corner colours by name and by number.
 pub mod Places
 pub mod Inside
 pub mod Corners

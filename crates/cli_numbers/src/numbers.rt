@@ -178,7 +178,7 @@ fn say_count(o: Out, page: &mut [u8; PAGE], n: u64) -> Out {
 
 // Three digits after the point of a size below 2^23.
 fn say_part(o: Out, page: &mut [u8; PAGE], size: f32) -> Out {
-    let part = float::cut_u64((size - size.trunc()) * 1000.0);
+    let part = float::cut_u64(float::remainder(size, 1.0) * 1000.0);
     let mut text = [0u8; 4];
     let n = push_digits(&mut text, 0, part, ABOUT_SCALE);
     say(say(o, page, b"."), page, &text[..n])

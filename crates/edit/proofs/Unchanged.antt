@@ -10,6 +10,7 @@ use Rattle.curve.specs.declared.Key.{Key}
 use Rattle.edit.specs.declared.request.Request.{Request}
 use Rattle.edit.specs.Keys.{Keys, key_at, put_key, same_key, Within, HeldKeys, HeldKey, get_put, put_get}
 use Rattle.edit.specs.Edit.{place, edited, unchanged}
+use Rattle.edit.specs.Unchanged.{at_held}
 
 -- two keys of f32 that are the same bit for bit are equal
 pub same_key_equal : (a b : Key) → HeldKey a → HeldKey b → same_key a b ≡ true → a ≡ b
@@ -24,10 +25,6 @@ same_key_equal a b h k e =
   where
     by_numbers : {f g v w m n : Float} → f ≡ g → v ≡ w → m ≡ n → ◌≡◌ {A = Key} (record { frame = f; value = v; slope = m }) (record { frame = g; value = w; slope = n })
     by_numbers p q r = rw (p, q, r)
-
-pub at_held : (ks : Keys) (i : ℕ) → HeldKeys ks → HeldKey (key_at ks i)
-unfolding key_at
-at_held ks i h = record { frame = h.frames i; value = h.values i; slope = h.slopes i }
 
 module _ (s : List ℕ) (ks : Keys) (track key : ℕ) (r : Request) where
   -- an unchanged edit would leave the keys as they are

@@ -6,3 +6,4 @@ pub mod Put
 pub mod Accepted
 pub mod Edits
 pub mod Over
+pub mod Unchanged

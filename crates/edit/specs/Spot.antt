@@ -1,5 +1,5 @@
 -- What the functions on one key ask of its place: it and its neighbours are in the lent arrays. Assumes nothing.
-use Rattle.std.specs.Prelude.{ℕ, ◌+◌, ◌<◌, ◌≤◌, ◌≡◌, true, List, length, Float}
+use Rattle.std.specs.Prelude.{◌+◌, ◌<◌, ◌≤◌, ◌≡◌, true, List, length, Float}
 use Rattle.edit.specs.declared.spot.Spot.{Spot}
 
 pub record Inside (fs : List Float) (p : Spot) : Type 0 where

@@ -1,2 +1,2 @@
--- The laws that the proofs of this crate cite.
+-- What a loop that writes f32s keeps.
 pub mod Writing

@@ -6,11 +6,10 @@ use Rattle.std.proofs.lemmas.Bool.{eqb-false, not-true}
 use Rattle.laws.specs.Tests.{both}
 use Rattle.laws.specs.Below.{all_at, all_of}
 use Rattle.laws.specs.First.{first_below, first_found}
-use Rattle.laws.specs.declared.Found.{Found}
 use Rattle.laws.specs.declared.Found.TheVariants.{At, Nothing}
 use Rattle.field.specs.Read.{byte_at}
 use Rattle.field.specs.Name.{name_bytes, same_byte, same_name, row_named, find_name, names_ok}
-use Rattle.field.specs.Table.{same_turned, distinct}
+use Rattle.field.specs.Table.{distinct}
 use Rattle.field.specs.Bucket.{buckets, hash_below, bucket_of, bucket_same, row_bucket}
 
 -- in the bucket of each row's name there is no 0

@@ -5,7 +5,6 @@ use Rattle.std.specs.Float.Ieee.{nan}
 use Rattle.laws.specs.Tests.{and_1, and_2}
 use Rattle.laws.specs.Below.{all_below, all_at}
 use Rattle.laws.specs.Table.{table, table_length, table_at}
-use Rattle.float.specs.Numbers.{finite}
 use Rattle.field.specs.Read.{float_at, finite_at}
 use Rattle.sheet.specs.Sizes.{key_count, frames_at, points_at}
 use Rattle.sheet.specs.Checked.{Checked}

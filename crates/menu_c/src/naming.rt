@@ -14,6 +14,7 @@ use laws::refusal::{ACCEPTED, NO_ANIMATION, NO_SUCH_ROW, OUTPUT_LENGTH, SHEET_LA
 use menu_checks::{check_book, check_state};
 use player::Player;
 
+#[tactic(auto, using(crate::proofs::Handed::handed_not))]
 fn hand_out(name: &[u8], out: &mut [u8]) -> u8
     requires { length name.now ≡ name_bytes }
     ensures { wrote result out.new ≡ written_by (name_rows out.old) name.now out.old }

@@ -6,6 +6,7 @@ use Rattle.laws.specs.Rows.{Row, numbered, declines, stops, goes, row_laws}
 use Rattle.player.specs.declared.Player.{Player}
 use Rattle.edit.specs.Keys.{keys}
 use Rattle.menu_checks.specs.Rows.{sheet_rows, own_rows, broken_rows, player_rows, keys_rows, state_rows, book_rows, reading_rows, behind}
+use Rattle.menu_checks.specs.Checks.{reading_stops, reading_goes}
 
 -- ---- a call's own rows, asked by what those before them declined with
 pub behind_stops : {n : ℕ} (m : ℕ) → (n ≡ 0 → ⊥) → n ≡ behind n m
@@ -60,13 +61,5 @@ state_behind s p fs vs ss more e h = behind_rows (state_rows s p (keys fs vs ss)
 module _ (s b : List ℕ) (p : Player) (fs vs ss : List Float) (more : List Row) {n : ℕ} (e : n ≡ declines (reading_rows s b p (keys fs vs ss))) where
   pub reading_behind : {k : ℕ} → k ≡ behind n (declines more) → k ≡ declines (reading_rows s b p (keys fs vs ss) ++ more)
   reading_behind h = behind_rows (reading_rows s b p (keys fs vs ss)) more tt e h
-
-  -- the readings that ask their own rows themselves. `stops` and `goes` are said again for this list, since `search` finds where a named list ends in one that
-  -- has computed, and not where any list does.
-  pub reading_stops : (n ≡ 0 → ⊥) → n ≡ declines (reading_rows s b p (keys fs vs ss) ++ more)
-  reading_stops d = stops (reading_rows s b p (keys fs vs ss)) more e d
-
-  pub reading_goes : {m : ℕ} → n ≡ 0 → m ≡ declines more → m ≡ declines (reading_rows s b p (keys fs vs ss) ++ more)
-  reading_goes z h = goes (reading_rows s b p (keys fs vs ss)) more tt e z h
 
 pub ruleset after_reading = (row_laws, reading_by, reading_stops, reading_goes)

@@ -1,2 +1,2 @@
--- The laws that the proofs of this crate cite.
+-- How a call's rows are asked in parts.
 pub mod Behind

@@ -1,7 +1,7 @@
 -- What the rows that calls share tell where each holds. How they are asked in two parts is shown in proofs/Behind. Assumes nothing.
 use Rattle.std.specs.Prelude.{ℕ, ◌≡◌, true, cond, List, [], ◌++◌, T, eqb, length, Float}
 use Rattle.std.proofs.Common.{sym, ◌∙◌, eqb-true, ne_eqb}
-use Rattle.laws.specs.Rows.{Row, row, numbered, In, declines, first_held, hold_at, held_at, row_in}
+use Rattle.laws.specs.Rows.{Row, row, numbered, In, declines, first_held, hold_at, held_at, row_in, stops, goes}
 use Rattle.laws.specs.Tests.{both}
 use Rattle.sheet.specs.Sizes.{key_count}
 use Rattle.sheet.specs.Sheet.{sheet_ok}
@@ -108,6 +108,15 @@ book_ready s b fs vs ss e z = rows_ready (book_rows s b (keys fs vs ss)) (search
 -- with a player whose state is not broken, they are what a drag's question asks
 pub held_open : {s : List ℕ} {ks : Keys} (p : Player) → KeysReady s ks → player_ok s p ≡ true → Draggable s ks p.drag
 held_open {s} p w e = record { sheet = w.sheet; rules = w.rules; row = (sound s p e).drag }
+
+-- ---- the readings that ask their own rows themselves
+module _ (s b : List ℕ) (p : Player) (fs vs ss : List Float) (more : List Row) {n : ℕ} (e : n ≡ declines (reading_rows s b p (keys fs vs ss))) where
+  -- `stops` and `goes` are said again for this list, since `search` finds where a named list ends in one that has computed, and not where any list does
+  pub reading_stops : (n ≡ 0 → ⊥) → n ≡ declines (reading_rows s b p (keys fs vs ss) ++ more)
+  reading_stops d = stops (reading_rows s b p (keys fs vs ss)) more e d
+
+  pub reading_goes : {m : ℕ} → n ≡ 0 → m ≡ declines more → m ≡ declines (reading_rows s b p (keys fs vs ss) ++ more)
+  reading_goes z h = goes (reading_rows s b p (keys fs vs ss)) more tt e z h
 
 -- ---- names: empty where the call is declined
 pub name_refused : {n m : ℕ} (x : List ℕ) → n ≡ m → (n ≡ 0 → ⊥) → [] ≡ cond (eqb m 0) x []

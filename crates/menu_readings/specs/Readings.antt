@@ -1,6 +1,6 @@
 -- What each reading gives (document 01, "Channels" and "What a call declines"): the number of the first row of its list that doesn't hold
 -- (specs/Rows), and the answer where each does. What is answered depends on the player only by its view. Definitions only.
-use Rattle.std.specs.Prelude.{ℕ, Bool, true, false, not, ◌&&◌, cond, List, [], eqb, Float}
+use Rattle.std.specs.Prelude.{ℕ, Bool, false, not, ◌&&◌, cond, List, [], eqb, Float}
 use Rattle.laws.specs.Rows.{declines}
 use Rattle.float.specs.Numbers.{zero'}
 use Rattle.float.specs.declared.vector.Srt.{Srt}

@@ -1,12 +1,9 @@
 -- The counts of a player, over plain numbers: which test fails, and what is left where each number is within its bound. Assumes nothing.
-use mathlib.Core.Path.{◌≡◌, refl}
-use mathlib.Core.Bool.{Bool, true, false, ◌&&◌, and-true, and-false}
+use mathlib.Core.Path.{◌≡◌}
+use mathlib.Core.Bool.{false, ◌&&◌, and-true, and-false}
 use Prim.Native.Nat.{ℕ, ◌+◌, ◌≤◌, ◌<◌}
-use native.Mathlib.Omega.{arith}
-use borrow.Author.Tests.{le-leb, lt-leb, leb-true, eqb-true}
+use borrow.Author.Tests.{le-leb, lt-leb}
 use lib.Dec.{leb, eqb}
-use Rattle.laws.specs.Tests.{both}
-use Rattle.player.specs.declared.Player.{Player}
 use Rattle.player.specs.Journal.{rows}
 use Rattle.player.specs.Player.{most, counts_ok}
 

@@ -1,6 +1,6 @@
 -- Row 5's two questions of a player by the ways of `Player::numbers_ok` and `Player::used_ok`. Assumes nothing.
 use mathlib.Core.Path.{◌≡◌, ◌∙◌}
-use mathlib.Core.Bool.{Bool, true, false, and-true, and-false}
+use mathlib.Core.Bool.{Bool, true, false, and-false}
 use mathlib.Core.List.{List}
 use Prim.Native.Nat.{ℕ}
 use Rattle.laws.specs.Below.{all_below}

@@ -1,5 +1,5 @@
 -- What the steps of undo, redo and an edit ask of the counts: none wraps. A player that is not broken gives it. Assumes nothing.
-use Rattle.std.specs.Prelude.{ℕ, ◌≤◌}
+use Rattle.std.specs.Prelude.{◌≤◌}
 use Rattle.player.specs.declared.Player.{Player}
 use Rattle.player.specs.Journal.{rows}
 use Rattle.player.specs.Player.{most}

@@ -1,10 +1,9 @@
 -- The journal's rows (document 01, "Playing and editing"): what stands in a row, and a journal with a row written. Row n % 128 belongs to
 -- standing edit number n, so two edits fewer than 128 apart have different rows.
-use Rattle.std.specs.Prelude.{ℕ, ◌%◌, ◌<◌, ◌≡◌, refl, List, get_or, set, length, replicate, Float}
-use Rattle.std.proofs.Common.{◌∙◌, arith, length-set, get_or-set_same, get_or-set_other}
+use Rattle.std.specs.Prelude.{ℕ, ◌%◌, ◌≡◌, refl, get_or, set, length, replicate}
+use Rattle.std.proofs.Common.{arith, length-set, get_or-set_same, get_or-set_other}
 use Rattle.std.specs.Float.{nan}
 use Rattle.float.specs.Numbers.{zero'}
-use Rattle.curve.specs.declared.Key.{Key}
 use Rattle.player.specs.declared.journal.Entry.{Entry}
 use Rattle.player.specs.declared.journal.Journal.{Journal}
 

@@ -88,6 +88,7 @@ impl Player {
     }
 
     // The journal's used rows.
+    #[tactic(auto, using(crate::proofs::Whole::none_used), unfolding(crate::specs::Player::all_used_ok))]
     pub fn used_ok(self, s: &[u8]) -> bool
         requires { Checked s.now × (numbers_ok s.now self ≡ true) }
         ensures { result ≡ all_used_ok s.now self }

@@ -1,2 +1,2 @@
--- What the exports for comparison test before they read.
+-- What the probes test before they read.
 pub mod Readable

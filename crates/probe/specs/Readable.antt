@@ -1,6 +1,6 @@
 -- What a whole reading asks: checked bytes and keys, and outputs as long as the book has channels; and what the comparison of one track with two sets
 -- of keys asks. Assumes nothing.
-use Rattle.std.specs.Prelude.{ℕ, ◌<◌, ◌≡◌, Bool, true, false, ◌&&◌, List, ltb, Float}
+use Rattle.std.specs.Prelude.{ℕ, ◌<◌, ◌≡◌, true, false, List, ltb, Float}
 use Rattle.std.proofs.Common.{sym, subst, arith, ltb-true}
 use Rattle.sheet.specs.Sizes.{target_count}
 use Rattle.sheet.specs.Rows.{target_row}

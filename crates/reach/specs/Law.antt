@@ -35,7 +35,8 @@ use Rattle.resolve.proofs.Untouched.{cascade_untouched}
 use Rattle.edit.specs.Keys.{Keys, key_at, put_key, HeldKeys}
 use Rattle.edit.specs.Edit.{has_key, place}
 use Rattle.edit.specs.Put.{has_key_lem}
-use Rattle.edit.proofs.Unchanged.{same_key_equal, at_held}
+use Rattle.edit.specs.Unchanged.{at_held}
+use Rattle.edit.proofs.Unchanged.{same_key_equal}
 use Rattle.reach.specs.Touched.{same_at, same_track, touched, channel_marks, marked, visible_marked, alpha_marked, own_marked, pane_mark, pane_marks}
 use Rattle.reach.specs.Ready.{Compared}
 

@@ -16,7 +16,7 @@ use Rattle.reading.specs.declared.Active.{Active}
 use Rattle.reading.specs.declared.Active.TheVariants as active
 use Rattle.reading.specs.declared.Reading.{Reading}
 use Rattle.reading.specs.declared.Reading.TheVariants.{Nothing, Number, Shown, Row, Level}
-use Rattle.reading.specs.LastTarget.{LastTarget, NoTarget, Overridden, exception_then, exception_only}
+use Rattle.reading.specs.LastTarget.{LastTarget, NoTarget, Overridden, LastOrNone, no_target, last_target_lem, exception_then, exception_only}
 
 -- ---- the search for the last target
 
@@ -46,15 +46,11 @@ module _ (s b : List ℕ) (a c : ℕ) where
         later = λ u l m. last_past (target_count s) addressing e u m (λ f. omega arith);
       }
 
-  -- one of the two is so: no target addresses the channel, or there is a last one
-  pub data LastOrNone : Type 0 where
-    no_target : NoTarget s b a c → LastOrNone
-    last_target_lem : (t : ℕ) → LastTarget s b a c t → LastOrNone
-
-  pub last_or_none : LastOrNone
+  -- one of the two is so
+  pub last_or_none : LastOrNone s b a c
   last_or_none = go (last_target s b a c) refl
     where
-      go : (o : Found) → last_target s b a c ≡ o → LastOrNone
+      go : (o : Found) → last_target s b a c ≡ o → LastOrNone s b a c
       go (found.At t) e = last_target_lem t (last_target_only t e)
       go found.Nothing e = no_target (no_target_only e)
 

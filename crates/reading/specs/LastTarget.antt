@@ -39,6 +39,12 @@ pub record Overridden (s b : List ℕ) (fs vs ss : List Float) (a : ℕ) (x : Fl
   pub last : LastTarget s b a c target
   pub kept : TextureException s fs vs ss x target → ⊥
 
+module _ (s b : List ℕ) (a c : ℕ) where
+  -- one of the two is so: no target addresses the channel, or there is a last one
+  pub data LastOrNone : Type 0 where
+    no_target : NoTarget s b a c → LastOrNone
+    last_target_lem : (t : ℕ) → LastTarget s b a c t → LastOrNone
+
 -- ---- what a target that addresses a channel reads
 
 -- a code of no family addresses nothing

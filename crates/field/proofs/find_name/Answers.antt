@@ -1,4 +1,4 @@
-use Rattle.std.proofs.Common.{◌-◌, sym, refl, arith, eq-eqb, ne_eqb}
+use Rattle.std.proofs.Common.{sym, refl, arith, eq-eqb, ne_eqb}
 use Rattle.laws.specs.Below.{passed_more, passed_not}
 use Rattle.laws.specs.First.{missed_none, missed_more, missed_at, missed_all}
 use Rattle.field.specs.Name.{same_byte, same_name, row_named, find_name}

@@ -1,4 +1,4 @@
-use Rattle.std.proofs.Common.{◌-◌, arith}
+use Rattle.std.proofs.Common.{arith}
 use Rattle.laws.specs.Joined.{joined_none, joined_more, joined_all}
 use Rattle.field.specs.Read.{finite_in, finite_row}
 use Rattle.field.proofs.finite_row.Goals as goal

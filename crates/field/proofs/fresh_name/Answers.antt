@@ -1,4 +1,4 @@
-use Rattle.std.proofs.Common.{◌-◌, not, sym, ap, ◌∙◌, arith}
+use Rattle.std.proofs.Common.{not, sym, ap, ◌∙◌, arith}
 use Rattle.laws.specs.Below.{passed_none, passed_more, passed_not, passed_all}
 use Rattle.field.specs.Name.{other_name}
 use Rattle.field.proofs.fresh_name.Goals as goal

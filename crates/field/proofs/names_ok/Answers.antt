@@ -1,4 +1,4 @@
-use Rattle.std.proofs.Common.{◌-◌, refl, arith}
+use Rattle.std.proofs.Common.{refl, arith}
 use Rattle.laws.specs.Below.{passed_none, passed_more, passed_not, passed_all}
 use Rattle.laws.specs.Noted.{noted_none, noted_more}
 use Rattle.field.specs.Name.{names_ok}

@@ -3,7 +3,7 @@ use Prim.Native.Nat.{◌-◌}
 use mathlib.Core.Path.{◌≡◌, sym, ◌∙◌, ap}
 use native.Mathlib.Omega.{arith}
 use lib.ListN.{length}
-use lib.Seq.{length-take-le, take-length}
+use lib.Seq.{take-length}
 use Rattle.field.specs.Write.{bytes_long}
 use Rattle.saved.specs.Saved.{saved_of, finite_frames, finite_values, finite_slopes}
 use Rattle.saved.proofs.Laws.{Started, middle, rest, in_three}

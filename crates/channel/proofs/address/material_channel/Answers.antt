@@ -1,6 +1,5 @@
 -- Each arm is its family's channels of a material; the arm of every other family addresses nothing.
 use Prim.Native.Nat.{ℕ}
-use mathlib.Core.List.{List, [], ◌∷◌}
 use mathlib.Core.Path.{◌≡◌, refl}
 use borrow.Author.Tests.{lt-ltb, le-ltb}
 use Rattle.laws.specs.declared.Found.TheVariants as found

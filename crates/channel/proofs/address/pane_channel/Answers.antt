@@ -1,6 +1,5 @@
 -- Each arm is its family's channels of a pane, a corner colour's by name the one that it has by number; the arm of every other family addresses nothing.
 use Prim.Native.Nat.{ℕ, ◌<◌}
-use mathlib.Core.List.{List, [], ◌∷◌}
 use mathlib.Core.Path.{◌≡◌, refl, sym, ◌∙◌}
 use native.Mathlib.Omega.{arith}
 use borrow.Author.Tests.{eq-eqb, ne_eqb}

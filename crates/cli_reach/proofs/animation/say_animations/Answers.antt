@@ -1,4 +1,4 @@
-use Rattle.std.proofs.Common.{◌-◌, arith}
+use Rattle.std.proofs.Common.{arith}
 use Rattle.cli_reach.proofs.animation.say_animations.Goals as goal
 
 pub say_animation-p-requires : goal.say_animation-p-requires

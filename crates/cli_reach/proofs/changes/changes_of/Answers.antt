@@ -1,4 +1,4 @@
-use Rattle.std.proofs.Common.{◌-◌, arith}
+use Rattle.std.proofs.Common.{arith}
 use Rattle.cli_reach.proofs.changes.changes_of.Goals as goal
 
 pub overflow_add-f : goal.overflow_add-f

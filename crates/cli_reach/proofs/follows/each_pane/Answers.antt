@@ -1,4 +1,4 @@
-use Rattle.std.proofs.Common.{◌-◌, arith}
+use Rattle.std.proofs.Common.{arith}
 use Rattle.cli_reach.proofs.follows.each_pane.Goals as goal
 
 pub say_follow-q-requires : goal.say_follow-q-requires

@@ -1,4 +1,4 @@
-use Rattle.std.proofs.Common.{◌-◌, refl, arith, length-set}
+use Rattle.std.proofs.Common.{refl, arith, length-set}
 use Rattle.cli_reach.proofs.follows.fill.Goals as goal
 
 pub loop-f-init : goal.loop-f-init

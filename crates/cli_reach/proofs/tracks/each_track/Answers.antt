@@ -1,4 +1,4 @@
-use Rattle.std.proofs.Common.{◌-◌, arith}
+use Rattle.std.proofs.Common.{arith}
 use Rattle.cli_reach.proofs.tracks.each_track.Goals as goal
 
 pub say_track-p-requires : goal.say_track-p-requires

@@ -1,5 +1,4 @@
 use native.Mathlib.Omega.{arith}
-use Prim.Native.Nat.{◌-◌}
 use mathlib.Core.Path.{◌∙◌}
 use Rattle.field.specs.Read.{finite_in}
 use Rattle.faults.specs.Tests.{fault_of}

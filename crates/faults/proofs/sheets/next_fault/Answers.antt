@@ -1,5 +1,4 @@
 use native.Mathlib.Omega.{arith}
-use Prim.Native.Nat.{◌-◌}
 use mathlib.Core.Path.{refl, ◌∙◌}
 use Rattle.field.specs.Name.{zero_byte}
 use Rattle.faults.specs.Tests.{fault_of, numbered}

@@ -1,5 +1,4 @@
 use native.Mathlib.Omega.{arith}
-use Prim.Native.Nat.{◌-◌}
 use mathlib.Core.Path.{◌≡◌, sym}
 use Rattle.laws.specs.Sum.{sum_none, sum_more}
 use Rattle.sheet.specs.Sheet.{keys_of}

@@ -1,5 +1,4 @@
 use native.Mathlib.Omega.{arith}
-use Prim.Native.Nat.{◌-◌}
 use mathlib.Core.Path.{◌∙◌}
 use Rattle.faults.specs.Loops.{clear_none, clear_more, clear_not, clear_all}
 use Rattle.faults.specs.Keys.{curve_track_numbered}

@@ -1,5 +1,4 @@
 use native.Mathlib.Omega.{arith}
-use Prim.Native.Nat.{◌-◌}
 use mathlib.Core.Path.{ap, ◌∙◌}
 use Rattle.sheet.specs.declared.rows.Target.{Target}
 use Rattle.sheet.specs.Checked.{target_keys}

@@ -1,4 +1,4 @@
-use Rattle.std.proofs.Common.{◌-◌, refl, arith}
+use Rattle.std.proofs.Common.{refl, arith}
 use Rattle.field.specs.Bucket.{row_bucket}
 use Rattle.field.specs.Index.{indexed_none, indexed_more, indexed_all}
 use Rattle.field.proofs.index.index_names.Goals as goal

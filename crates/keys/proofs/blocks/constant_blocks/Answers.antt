@@ -1,5 +1,4 @@
 use native.Mathlib.Omega.{arith}
-use Prim.Native.Nat.{◌-◌}
 use mathlib.Core.Path.{◌∙◌}
 use Rattle.laws.specs.Blocks.{blocks_none, blocks_more, blocks_all}
 use Rattle.keys.specs.ByPlace.{constant_block}

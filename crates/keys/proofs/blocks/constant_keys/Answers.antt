@@ -1,5 +1,4 @@
 use native.Mathlib.Omega.{arith}
-use Prim.Native.Nat.{◌-◌}
 use mathlib.Core.Path.{◌∙◌}
 use Rattle.laws.specs.Joined.{joined_none, joined_more, joined_all}
 use Rattle.keys.specs.ByPlace.{constant_place}

@@ -1,5 +1,4 @@
 use native.Mathlib.Omega.{arith}
-use Prim.Native.Nat.{◌-◌}
 use Rattle.laws.specs.Table.{filled_none, filled_more, filled_all}
 use Rattle.keys.proofs.load.copy_floats.Goals as goal
 

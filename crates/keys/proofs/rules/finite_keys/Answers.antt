@@ -1,5 +1,4 @@
 use native.Mathlib.Omega.{arith}
-use Prim.Native.Nat.{◌-◌}
 use Rattle.laws.specs.Joined.{joined_none, joined_more, joined_all}
 use Rattle.keys.specs.Rules.{finite_key}
 use Rattle.keys.proofs.rules.finite_keys.Goals as goal

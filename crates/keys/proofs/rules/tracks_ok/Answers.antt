@@ -1,5 +1,4 @@
 use native.Mathlib.Omega.{arith}
-use Prim.Native.Nat.{◌-◌}
 use Rattle.laws.specs.Below.{passed_none, passed_more, passed_not, passed_all}
 use Rattle.keys.proofs.rules.tracks_ok.Goals as goal
 

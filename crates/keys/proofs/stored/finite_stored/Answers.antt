@@ -1,5 +1,4 @@
 use native.Mathlib.Omega.{arith}
-use Prim.Native.Nat.{◌-◌}
 use Rattle.laws.specs.Joined.{joined_none, joined_more, joined_all}
 use Rattle.keys.specs.Stored.{finite_stored}
 use Rattle.keys.proofs.stored.finite_stored.Goals as goal

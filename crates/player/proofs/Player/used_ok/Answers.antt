@@ -3,15 +3,10 @@ use native.Mathlib.Omega.{arith}
 use Rattle.player.specs.Journal.{row_of}
 use Rattle.player.specs.Player.{used_ok, named_ok, all_used_ok}
 use Rattle.player.specs.Sound.{own_counts}
-use Rattle.player.proofs.Whole.{none_used}
 use Rattle.player.proofs.Player.used_ok.Goals as goal
 
 pub overflow_add-n : goal.overflow_add-n
 overflow_add-n c = let k = own_counts _ _ c.requires.1 in omega arith
-
-pub returns-then-n-eq0 : goal.returns-then-n-eq0
-unfolding all_used_ok
-returns-then-n-eq0 c = none_used _ _ c.if-n-eq0.true
 
 pub overflow_sub-first : goal.overflow_sub-first
 overflow_sub-first c = let k = own_counts _ _ c.requires.1 in omega arith

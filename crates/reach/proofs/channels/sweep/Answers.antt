@@ -1,7 +1,5 @@
-use Prim.Native.Nat.{◌-◌}
 use mathlib.Core.Path.{refl}
 use native.Mathlib.Omega.{arith}
-use Rattle.edit.specs.Keys.{keys}
 use Rattle.reach.proofs.Pass.{pass_none, pass_fits, pass_past, pass_room, pass_at, pass_all, cleared}
 use Rattle.reach.proofs.channels.sweep.Goals as goal
 

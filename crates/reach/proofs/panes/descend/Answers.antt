@@ -1,4 +1,3 @@
-use Prim.Native.Nat.{◌-◌}
 use native.Mathlib.Omega.{arith}
 use Rattle.channel.specs.Channel.{channel_count}
 use Rattle.reach.proofs.Down.{made_none, parent_within, made_more, made_all}

@@ -1,10 +1,9 @@
-use Prim.Native.Nat.{◌-◌}
 use mathlib.Core.Bool.{not}
 use mathlib.Core.Path.{ap}
 use native.Mathlib.Omega.{arith}
 use Rattle.laws.specs.Tests.{hit, miss}
 use Rattle.laws.specs.Below.{passed_none, passed_more, passed_not, passed_all}
-use Rattle.reach.specs.Touched.{marked, own_marked}
+use Rattle.reach.specs.Touched.{own_marked}
 use Rattle.reach.proofs.panes.own_marked.Goals as goal
 
 pub loop-k-init : goal.loop-k-init

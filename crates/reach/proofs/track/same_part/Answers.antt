@@ -1,4 +1,3 @@
-use Prim.Native.Nat.{◌-◌}
 use native.Mathlib.Omega.{arith}
 use Rattle.laws.specs.Below.{passed_none, passed_more, passed_not, passed_all}
 use Rattle.reach.specs.Ready.{same_part}

@@ -1,6 +1,4 @@
-use Prim.Native.Nat.{◌-◌}
 use native.Mathlib.Omega.{arith}
-use Rattle.channel.specs.Animation.{target_animation}
 use Rattle.laws.specs.Parted.{parted_none, parted_low, parted_high, parted_met}
 use Rattle.reading.proofs.Planning.{animations_climb}
 use Rattle.reading.proofs.plan.targets_below.Goals as goal

@@ -1,4 +1,3 @@
-use Prim.Native.Nat.{◌-◌}
 use native.Mathlib.Omega.{arith}
 use Rattle.resolve.proofs.Down.{made_none, parent_within, made_more, made_all}
 use Rattle.resolve.proofs.rows.descend.Goals as goal

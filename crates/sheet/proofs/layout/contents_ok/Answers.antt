@@ -1,5 +1,4 @@
 use native.Mathlib.Omega.{arith}
-use Prim.Native.Nat.{◌-◌}
 use mathlib.Core.Path.{sym}
 use Rattle.laws.specs.Below.{passed_none, passed_more, passed_not, passed_all}
 use Rattle.sheet.specs.Tested.{prior_none, prior_more, animation_of}

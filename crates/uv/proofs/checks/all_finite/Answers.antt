@@ -1,4 +1,3 @@
-use Prim.Native.Nat.{◌-◌}
 use native.Mathlib.Omega.{arith}
 use Rattle.laws.specs.Joined.{joined_none, joined_more, joined_all}
 use Rattle.uv.specs.Declined.{finite_at, all_finite}
