@@ -204,18 +204,24 @@ fn the_status_is_no_output() {
 
     let folder = folder("no_output");
     damaged(&folder);
-    let sheets = [("title.sheet", 0), ("damaged.sheet", 1), ("none.sheet", 2)];
-    for (sheet, status) in sheets {
-        let [started, alone] = [starter(), program()].map(|command| {
+    let declined = "damaged.sheet: declined 1: the sheet breaks its layout: \
+                    animation 0, looping, byte 14: is 7, may be 0 or 1\n";
+    let missing = "error: none.sheet: there is no such file\n";
+    let sheets = [
+        ("title.sheet", 0, "title.sheet: ok, a sheet\n", ""),
+        ("damaged.sheet", 1, declined, ""),
+        ("none.sheet", 2, "", missing),
+    ];
+    for (sheet, status, out, err) in sheets {
+        for command in [starter(), program()] {
             let line = r#""$@" 3> third 4> fourth"#;
             let mut shell = Command::new("sh");
             shell.args(["-c", line, "sh"]).arg(command);
-            run_command(shell.args(["check", sheet]).current_dir(&folder))
-        });
-        assert_eq!((started.status, alone.status), (status, status), "{sheet}");
-        assert_eq!((&started.out, &started.err), (&alone.out, &alone.err));
-        for name in ["third", "fourth"] {
-            assert_eq!(fs::read(folder.join(name)).unwrap(), b"", "{sheet}: {name}");
+            let ran = run_command(shell.args(["check", sheet]).current_dir(&folder));
+            assert_eq!((ran.status, ran.text(), &*ran.err), (status, out, err));
+            for name in ["third", "fourth"] {
+                assert_eq!(fs::read(folder.join(name)).unwrap(), b"", "{sheet}: {name}");
+            }
         }
     }
 }
