@@ -7,8 +7,8 @@ use std::path::{Path, PathBuf};
 
 use crate::json::Value;
 use crate::program::{
-    Ran, file, folder, replay, replay_json, replay_of, run, run_command, sample, sample_bytes,
-    words,
+    Ran, file, folder, replay, replay_json, replay_of, run, run_command, run_on, sample,
+    sample_bytes, words,
 };
 
 /// Output on one line each, of characters that stand for themselves.
@@ -208,4 +208,43 @@ fn of_the_command_line() {
         ran.err,
         "error: none???: is no command; menu_cli help lists them\n"
     );
+}
+
+/// A file is opened whatever UTF-8 its name is, control bytes too. One whose name is no UTF-8 can't be: it is told so, for reading
+/// and for writing, and what stands there stays.
+#[test]
+fn of_the_names_of_files() {
+    let folder = folder("file_names");
+    let (told, raw) = (
+        OsStr::from_bytes(b"\x1b\xc3\xbc.sheet"),
+        OsStr::from_bytes(b"\xff.sheet"),
+    );
+    for name in [told, raw] {
+        std::fs::copy(sample("title.sheet"), folder.join(name)).unwrap();
+    }
+    let check = |name| run_command(words(&[OsStr::new("check"), name]).current_dir(&folder));
+    let ran = check(told);
+    assert_eq!((ran.status, ran.text()), (0, "?ü.sheet: ok, a sheet\n"));
+    let ran = check(raw);
+    assert_eq!(
+        (ran.status, ran.err.as_str()),
+        (2, "error: ?.sheet: cannot be opened\n")
+    );
+
+    let calls = "play 0\nkey 0 1 9.5 64\nsave ";
+    for (name, answered) in [
+        (told, "3 save ?ü.sheet: saved "),
+        (raw, "error: ?.sheet: cannot be opened for writing"),
+    ] {
+        let list = [calls.as_bytes(), name.as_bytes(), b"\n"].concat();
+        let mut command = words(&[
+            OsStr::new("replay"),
+            sample("title.sheet").as_ref(),
+            sample("title.book").as_ref(),
+        ]);
+        let ran = run_on(command.current_dir(&folder), &list);
+        assert!(ran.lines()[2].contains(answered), "{ran:?}");
+        let edited = std::fs::read(folder.join(name)).unwrap() != sample_bytes("title.sheet");
+        assert_eq!(edited, name == told);
+    }
 }
