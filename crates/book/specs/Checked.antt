@@ -50,6 +50,13 @@ checked_book b e =
     let p = both _ _ m.0 in
     record { sizes = sized b (and_2 (leb head_bytes (length b)) _ p.0); paned = p.1; made = m.1; labelled = l.1; named = n.1 }
 
+-- ---- the names' fields lie within a book as long as its sizes say
+pub label_place : {b : List ℕ} → Sized b → Fields b panes_at pane_bytes (pane_count b)
+label_place w = record { within = λ i l. omega arith }
+
+pub name_place : {b : List ℕ} → Sized b → Fields b (materials_at b) material_bytes (material_count b)
+name_place w = record { within = λ i l. omega arith }
+
 -- ---- what each test of a pane says
 record PaneOk (b : List ℕ) (i : ℕ) : Type 0 where
   parent : (eqb (u16_at b (panes_at + i * pane_bytes + name_bytes)) no_parent || ltb (u16_at b (panes_at + i * pane_bytes + name_bytes)) i) ≡ true
@@ -99,10 +106,10 @@ module _ {b : List ℕ} (w : CheckedBook b) where
   -- ---- names
   -- the labels and the names are fields of the book, as a search asks
   pub label_fields : Fields b panes_at pane_bytes (pane_count b)
-  label_fields = record { within = λ i l. omega arith }
+  label_fields = label_place w.sizes
 
   pub name_fields : Fields b (materials_at b) material_bytes (material_count b)
-  name_fields = record { within = λ i l. omega arith }
+  name_fields = name_place w.sizes
 
   -- no label is empty, and panes with one label are one pane; materials likewise
   pub label_given : (i : ℕ) → i < pane_count b → empty_name b (panes_at + i * pane_bytes) ≡ false

@@ -2,4 +2,5 @@
 pub mod Sizes
 pub mod Rows
 pub mod Book
+pub mod Tested
 pub mod Checked

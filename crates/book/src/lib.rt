@@ -3,9 +3,11 @@
 
 mod layout;
 mod rows;
+mod view;
 
 pub use layout::book_ok;
 pub use rows::{
     HEAD, MATERIAL_BYTES, NO_PARENT, PANE_BYTES, Pane, material_count, material_name, material_srt,
     material_texture, materials_at, pane_count, pane_label, pane_row,
 };
+pub use view::Book;

@@ -78,6 +78,7 @@ fn vector3_at(b: &[u8], at: usize) -> Vector3
     }
 }
 
+#[tactic(auto, unfolding(crate::specs::Rows::pane_row))]
 pub fn pane_row(b: &[u8], i: usize) -> Pane
     requires { CheckedBook b.now × (i < pane_count b.now) }
     ensures { result ≡ pane_row b.now i }
@@ -99,6 +100,7 @@ pub fn pane_row(b: &[u8], i: usize) -> Pane
 }
 
 // SRT j of material i.
+#[tactic(auto, unfolding(crate::specs::Rows::material_srt))]
 pub fn material_srt(b: &[u8], i: usize, j: usize) -> Srt
     requires { CheckedBook b.now × ((i < material_count b.now) × (j < 3)) }
     ensures { result ≡ material_srt b.now i j }
@@ -113,6 +115,7 @@ pub fn material_srt(b: &[u8], i: usize, j: usize) -> Srt
 
 // ---- names
 
+#[tactic(auto, unfolding(crate::specs::Rows::pane_label))]
 pub fn pane_label<'a>(b: &'a [u8], i: usize) -> &'a [u8]
     requires { CheckedBook b.now × (i < pane_count b.now) }
     ensures { result.now ≡ pane_label b.now i }
@@ -120,6 +123,7 @@ pub fn pane_label<'a>(b: &'a [u8], i: usize) -> &'a [u8]
     field::name_at(b, HEAD + i * PANE_BYTES)
 }
 
+#[tactic(auto, unfolding(crate::specs::Rows::material_name))]
 pub fn material_name<'a>(b: &'a [u8], i: usize) -> &'a [u8]
     requires { CheckedBook b.now × (i < material_count b.now) }
     ensures { result.now ≡ material_name b.now i }
@@ -128,6 +132,7 @@ pub fn material_name<'a>(b: &'a [u8], i: usize) -> &'a [u8]
 }
 
 // Texture j of material i.
+#[tactic(auto, unfolding(crate::specs::Rows::material_texture))]
 pub fn material_texture<'a>(b: &'a [u8], i: usize, j: usize) -> &'a [u8]
     requires { CheckedBook b.now × ((i < material_count b.now) × (j < 3)) }
     ensures { result.now ≡ material_texture b.now i j }

@@ -2,7 +2,7 @@
 use Rattle.std.specs.Prelude.{ℕ, ◌+◌, ◌<◌, ◌≡◌, refl, Bool, eqb}
 use Rattle.std.proofs.Common.{arith, eqb-true, ne_eqb, lt-ltb}
 use Rattle.laws.specs.Below.{all_below, all_at}
-use Rattle.laws.specs.declared.Found.TheVariants as found
+use Rattle.std.specs.Prelude.{Some}
 use Rattle.channel.specs.Channel.{listed, pane_channel}
 use Rattle.channel.specs.declared.Family.TheVariants.{VertexColor}
 use Rattle.channel.specs.CornerColours.{pane_alpha, corner_colour, corner_channel}
@@ -18,6 +18,6 @@ corner_by_number raw l = eqb-true (corner_channel (corner_colour raw)) (12 + raw
 -- ---- each raw number reaches the channel of its name
 
 -- below PaneAlpha's: that of its corner colour
-pub corner_reached : (raw : ℕ) → raw < pane_alpha → pane_channel VertexColor raw ≡ found.At (corner_channel (corner_colour raw))
+pub corner_reached : (raw : ℕ) → raw < pane_alpha → pane_channel VertexColor raw ≡ Some (corner_channel (corner_colour raw))
 unfolding pane_channel listed
 corner_reached raw l = rw (lt-ltb raw 17 (omega arith), ne_eqb raw pane_alpha (λ e. omega arith), corner_by_number raw l)

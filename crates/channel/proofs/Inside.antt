@@ -1,8 +1,8 @@
 -- Every channel that is addressed in a material's row is one of the material's, and every one that a target addresses one of the book's. Assumes nothing.
 use Rattle.std.specs.Prelude.{ℕ, ◌+◌, ◌%◌, ◌<◌, List, Bool, true, false, cond, ◌≡◌, refl, ltb}
 use Rattle.std.proofs.Common.{arith, ltb-true}
-use Rattle.laws.specs.declared.Found.{Found}
-use Rattle.laws.specs.declared.Found.TheVariants as found
+use Rattle.std.specs.Prelude.{Option}
+use Rattle.std.specs.Prelude.{Some, None}
 use Rattle.sheet.specs.Rows.{target_row}
 use Rattle.channel.specs.Channel.{colour_variants, listed, pane_channel, colour_place, material_channel, pane_channels, material_channels, channel_count, in_pane, in_material, address, row_channel, target_channel}
 use Rattle.channel.specs.Slot.{slot_below}
@@ -10,7 +10,7 @@ use Rattle.channel.specs.declared.Family.{Family}
 use Rattle.channel.specs.declared.Family.TheVariants.{PaneSrt, Visibility, VertexColor, TextureSrt, TexturePattern, IndirectSrt, AlphaCompare, MaterialColor, Other}
 use Rattle.channel.specs.declared.Reached.{Reached}
 use Rattle.channel.specs.declared.Reached.TheVariants as reached
-use Rattle.channel.specs.Within.{listed_below, Below, at, nowhere, either, pane_channel_below, ReachedIn, active_in_lem, pane_below, material_below}
+use Rattle.channel.specs.Within.{listed_below, Below, at, nowhere, either, pane_channel_below, SomeIn, active_in_lem, pane_below, material_below}
 
 -- ---- channels of one row
 
@@ -37,20 +37,20 @@ material_channel_below Other raw layer = nowhere _
 
 -- ---- channels of the book
 
-pub address_below : (b : List ℕ) (r : Reached) (f : Family) (raw layer : ℕ) → ReachedIn b r → Below (address b r f raw layer) (channel_count b)
+pub address_below : (b : List ℕ) (o : Option Reached) (f : Family) (raw layer : ℕ) → SomeIn b o → Below (address b o f raw layer) (channel_count b)
 unfolding address
-address_below b (reached.Pane p) f raw layer h = go (pane_channel f raw) (pane_channel_below f raw)
+address_below b (Some (reached.Pane p)) f raw layer h = go (pane_channel f raw) (pane_channel_below f raw)
   where
-    go : (o : Found) → Below o pane_channels → Below (in_pane p o) (channel_count b)
-    go (found.At c) k = at _ _ (pane_below b p c (h.pane p refl) (k.below c refl))
-    go found.Nothing k = nowhere _
-address_below b (reached.Material m) f raw layer h = go (material_channel f raw layer) (material_channel_below f raw layer)
+    go : (o : Option ℕ) → Below o pane_channels → Below (in_pane p o) (channel_count b)
+    go (Some c) k = at _ _ (pane_below b p c ((h.some _ refl).pane p refl) (k.below c refl))
+    go None k = nowhere _
+address_below b (Some (reached.Material m)) f raw layer h = go (material_channel f raw layer) (material_channel_below f raw layer)
   where
-    go : (o : Found) → Below o material_channels → Below (in_material b m o) (channel_count b)
-    go (found.At c) k = at _ _ (material_below b m c (h.material m refl) (k.below c refl))
-    go found.Nothing k = nowhere _
-address_below b reached.Nothing f raw layer h = nowhere _
+    go : (o : Option ℕ) → Below o material_channels → Below (in_material b m o) (channel_count b)
+    go (Some c) k = at _ _ (material_below b m c ((h.some _ refl).material m refl) (k.below c refl))
+    go None k = nowhere _
+address_below b None f raw layer h = nowhere _
 
-pub target_within : (s b : List ℕ) (a t c : ℕ) → target_channel s b a t ≡ found.At c → c < channel_count b
+pub target_within : (s b : List ℕ) (a t c : ℕ) → target_channel s b a t ≡ Some c → c < channel_count b
 unfolding target_channel row_channel
 target_within s b a t c e = (address_below b _ _ _ _ (active_in_lem s b a (target_row s t).content)).below c e

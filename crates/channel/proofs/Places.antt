@@ -7,13 +7,13 @@ use borrow.Author.Tests.{ltb-true, ltb-false, lt-ltb, eqb-true, eqb-false, eq-eq
 use Rattle.std.proofs.Math.Arith.{digits_div, digits_mod}
 use Rattle.std.proofs.Math.Dec.{eqb}
 use Rattle.laws.specs.Swept.{is_at}
-use Rattle.laws.specs.declared.Found.{Found}
-use Rattle.laws.specs.declared.Found.TheVariants as found
+use Rattle.std.specs.Prelude.{Option}
+use Rattle.std.specs.Prelude.{Some, None}
 use Rattle.sheet.specs.Rows.{target_row}
 use Rattle.sheet.specs.declared.rows.Target.{Target}
 use Rattle.book.specs.Sizes.{pane_count}
 use Rattle.channel.specs.Channel.{family_of, pane_channel, material_channel, pane_channels, material_channels, of_pane, of_material, active_reach, in_pane, in_material, address, row_channel, target_channel}
-use Rattle.channel.specs.Within.{Below, pane_channel_below, ReachedIn, active_in_lem}
+use Rattle.channel.specs.Within.{Below, pane_channel_below, SomeIn, active_in_lem}
 use Rattle.channel.proofs.Inside.{material_channel_below}
 use Rattle.channel.specs.declared.Family.{Family}
 use Rattle.channel.specs.declared.Reached.{Reached}
@@ -37,32 +37,32 @@ and_no true = refl
 and_no false = refl
 
 module _ (b : List ℕ) (f : Family) (raw layer c : ℕ) where
-  in_panes : c < pane_count b * pane_channels → (r : Reached) → is_at (address b r f raw layer) c ≡ (is_at (pane_channel f raw) (c % pane_channels) && is_pane r (c / pane_channels))
+  in_panes : c < pane_count b * pane_channels → (r : Option Reached) → is_at (address b r f raw layer) c ≡ (is_at (pane_channel f raw) (c % pane_channels) && is_pane r (c / pane_channels))
   unfolding address of_pane of_material
-  in_panes l (reached.Pane q) = go (pane_channel f raw) (pane_channel_below f raw)
+  in_panes l (Some (reached.Pane q)) = go (pane_channel f raw) (pane_channel_below f raw)
     where
-      go : (o : Found) → Below o pane_channels → is_at (in_pane q o) c ≡ (is_at o (c % pane_channels) && eqb q (c / pane_channels))
-      go (found.At j) h = digits pane_channels q j c (h.below j refl)
-      go found.Nothing h = refl
-  in_panes l (reached.Material n) = go (material_channel f raw layer) ∙ and_no (is_at (pane_channel f raw) (c % pane_channels))
+      go : (o : Option ℕ) → Below o pane_channels → is_at (in_pane q o) c ≡ (is_at o (c % pane_channels) && eqb q (c / pane_channels))
+      go (Some j) h = digits pane_channels q j c (h.below j refl)
+      go None h = refl
+  in_panes l (Some (reached.Material n)) = go (material_channel f raw layer) ∙ and_no (is_at (pane_channel f raw) (c % pane_channels))
     where
-      go : (o : Found) → is_at (in_material b n o) c ≡ false
-      go (found.At j) = ne_eqb (pane_count b * pane_channels + n * material_channels + j) c (λ e. omega arith)
-      go found.Nothing = refl
-  in_panes l reached.Nothing = and_no (is_at (pane_channel f raw) (c % pane_channels))
+      go : (o : Option ℕ) → is_at (in_material b n o) c ≡ false
+      go (Some j) = ne_eqb (pane_count b * pane_channels + n * material_channels + j) c (λ e. omega arith)
+      go None = refl
+  in_panes l None = and_no (is_at (pane_channel f raw) (c % pane_channels))
 
   -- what is left of c past the panes' channels
   abbrev past : ℕ
   past = c - pane_count b * pane_channels
 
-  in_materials : pane_count b * pane_channels ≤ c → (r : Reached) → ReachedIn b r → is_at (address b r f raw layer) c ≡ (is_at (material_channel f raw layer) (past % material_channels) && is_material r (past / material_channels))
+  in_materials : pane_count b * pane_channels ≤ c → (r : Option Reached) → SomeIn b r → is_at (address b r f raw layer) c ≡ (is_at (material_channel f raw layer) (past % material_channels) && is_material r (past / material_channels))
   unfolding address of_pane of_material
-  in_materials l (reached.Pane q) i = go (pane_channel f raw) (pane_channel_below f raw) ∙ and_no (is_at (material_channel f raw layer) (past % material_channels))
+  in_materials l (Some (reached.Pane q)) i = go (pane_channel f raw) (pane_channel_below f raw) ∙ and_no (is_at (material_channel f raw layer) (past % material_channels))
     where
-      go : (o : Found) → Below o pane_channels → is_at (in_pane q o) c ≡ false
-      go (found.At j) h = ne_eqb (q * pane_channels + j) c (λ e. omega (arith, h.below j refl, i.pane q refl))
-      go found.Nothing h = refl
-  in_materials l (reached.Material n) i = go (material_channel f raw layer) (material_channel_below f raw layer)
+      go : (o : Option ℕ) → Below o pane_channels → is_at (in_pane q o) c ≡ false
+      go (Some j) h = ne_eqb (q * pane_channels + j) c (λ e. omega (arith, h.below j refl, (i.some _ refl).pane q refl))
+      go None h = refl
+  in_materials l (Some (reached.Material n)) i = go (material_channel f raw layer) (material_channel_below f raw layer)
     where
       shift : (j : ℕ) → eqb (pane_count b * pane_channels + n * material_channels + j) c ≡ eqb (n * material_channels + j) past
       shift j = same (eqb (n * material_channels + j) past) refl
@@ -71,10 +71,10 @@ module _ (b : List ℕ) (f : Family) (raw layer c : ℕ) where
           same true e = eq-eqb (pane_count b * pane_channels + n * material_channels + j) c (omega (arith, eqb-true (n * material_channels + j) past e))
           same false e = ne_eqb (pane_count b * pane_channels + n * material_channels + j) c (λ q. eqb-false (n * material_channels + j) past e (omega arith))
 
-      go : (o : Found) → Below o material_channels → is_at (in_material b n o) c ≡ (is_at o (past % material_channels) && eqb n (past / material_channels))
-      go (found.At j) h = shift j ∙ digits material_channels n j past (h.below j refl)
-      go found.Nothing h = refl
-  in_materials l reached.Nothing i = and_no (is_at (material_channel f raw layer) (past % material_channels))
+      go : (o : Option ℕ) → Below o material_channels → is_at (in_material b n o) c ≡ (is_at o (past % material_channels) && eqb n (past / material_channels))
+      go (Some j) h = shift j ∙ digits material_channels n j past (h.below j refl)
+      go None h = refl
+  in_materials l None i = and_no (is_at (material_channel f raw layer) (past % material_channels))
 
 pub place_hit : (s b : List ℕ) (a t c : ℕ) → is_at (target_channel s b a t) c ≡ hits s b a (place_of b c) (target_row s t)
 unfolding target_channel row_channel place_of hits

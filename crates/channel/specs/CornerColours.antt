@@ -1,8 +1,8 @@
--- The sixteen corner colours by name (document 02, 3/13): which one a raw number stands for, and which channel each has. That these are the channels which
+-- The sixteen corner colours by name: which one a raw number stands for, and which channel each has. That these are the channels which
 -- `pane_channel` gives by number is shown in proofs/Corners. Assumes nothing.
 use Rattle.std.specs.Prelude.{ℕ, ◌<◌, ◌≡◌, refl, List, [], ◌∷◌, get_or}
 use Rattle.std.proofs.Common.{arith, le-ltb}
-use Rattle.laws.specs.declared.Found.TheVariants as found
+use Rattle.std.specs.Prelude.{Some}
 use Rattle.channel.specs.Channel.{alpha_channel, listed, pane_channel}
 use Rattle.channel.specs.declared.Family.TheVariants.{VertexColor}
 use Rattle.channel.specs.declared.corner_colours.CornerColour.{CornerColour}
@@ -47,11 +47,11 @@ corner_channel RightBottomAlpha = 27
 -- ---- each raw number reaches the channel of its name
 
 -- PaneAlpha's: the pane's alpha
-pub alpha_reached : pane_channel VertexColor pane_alpha ≡ found.At alpha_channel
+pub alpha_reached : pane_channel VertexColor pane_alpha ≡ Some alpha_channel
 unfolding pane_channel listed
 alpha_reached = refl
 
 -- above it, where targets.rs lists none: that of the first
-pub unlisted_reached : (raw : ℕ) → pane_alpha < raw → pane_channel VertexColor raw ≡ found.At (corner_channel LeftTopRed)
+pub unlisted_reached : (raw : ℕ) → pane_alpha < raw → pane_channel VertexColor raw ≡ Some (corner_channel LeftTopRed)
 unfolding pane_channel listed
 unlisted_reached raw l = rw (le-ltb raw 17 (omega arith))

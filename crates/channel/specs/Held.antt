@@ -1,5 +1,5 @@
 -- What a pass over the targets holds of the last content that it met. Assumes nothing.
-use Rattle.std.specs.Prelude.{ℕ, List, ◌≡◌, refl}
+use Rattle.std.specs.Prelude.{ℕ, List, ◌≡◌, refl, None}
 use Rattle.std.proofs.Common.{arith, le-ltb}
 use Rattle.field.specs.Index.{Indexed}
 use Rattle.sheet.specs.Sizes.{content_count}
@@ -7,7 +7,6 @@ use Rattle.sheet.specs.Checked.{Checked}
 use Rattle.book.specs.Sizes.{pane_count, material_count, pane_bytes, material_bytes, panes_at, materials_at}
 use Rattle.book.specs.Checked.{CheckedBook}
 use Rattle.channel.specs.Channel.{active_reach}
-use Rattle.channel.specs.declared.Reached.TheVariants as reached
 use Rattle.channel.specs.declared.reach.Held.{Held}
 
 -- a checked book, with indexes of its pane names and of its material names
@@ -18,7 +17,7 @@ pub record Searched (b panes materials : List ℕ) : Type 0 where
 
 -- no content
 abbrev pub none_held : Held
-none_held = record { content = 65536; reached = reached.Nothing }
+none_held = record { content = 65536; reached = None }
 
 -- content c, and the row that it reaches while animation a is active
 abbrev pub held_for : List ℕ → List ℕ → ℕ → ℕ → Held

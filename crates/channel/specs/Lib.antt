@@ -1,4 +1,4 @@
--- Document 01, "Channels": which channel a target addresses.
+-- Which channel a target addresses.
 pub mod Channel
 pub mod CornerColours
 pub mod Slot

@@ -9,8 +9,8 @@ use Rattle.std.proofs.Math.Dec.{eqb}
 use Rattle.laws.specs.Below.{all_at, all_of}
 use Rattle.laws.specs.Swept.{is_at}
 use Rattle.laws.specs.Only.{first_only}
-use Rattle.laws.specs.declared.Found.{Found}
-use Rattle.laws.specs.declared.Found.TheVariants as found
+use Rattle.std.specs.Prelude.{Option}
+use Rattle.std.specs.Prelude.{Some, None}
 use Rattle.field.specs.Read.{byte_at}
 use Rattle.field.specs.Name.{name_bytes, same_byte, same_name, row_named, find_name, names_ok}
 use Rattle.field.specs.Table.{distinct}
@@ -37,15 +37,20 @@ pub record PlacedIn (b : List ℕ) (l : Place) : Type 0 where
   pub material : (m k : ℕ) → l ≡ Material m k → m < material_count b
 
 -- what is reached is pane p, is material m
-abbrev pub is_pane : Reached → ℕ → Bool
-is_pane (reached.Pane q) p = eqb q p
-is_pane (reached.Material n) p = false
-is_pane reached.Nothing p = false
+abbrev pub is_pane : Option Reached → ℕ → Bool
+is_pane (Some (reached.Pane q)) p = eqb q p
+is_pane (Some (reached.Material n)) p = false
+is_pane None p = false
 
-abbrev pub is_material : Reached → ℕ → Bool
-is_material (reached.Pane q) m = false
-is_material (reached.Material n) m = eqb n m
-is_material reached.Nothing m = false
+abbrev pub is_material : Option Reached → ℕ → Bool
+is_material (Some (reached.Pane q)) m = false
+is_material (Some (reached.Material n)) m = eqb n m
+is_material None m = false
+
+-- what is reached is a given row
+abbrev pub is_row : Option Reached → Reached → Bool
+is_row o (reached.Pane p) = is_pane o p
+is_row o (reached.Material m) = is_material o m
 
 -- a target's row addresses the channel at a place: its family, raw number and layer give the channel's number, and its content reaches the row
 unfoldable pub hits : List ℕ → List ℕ → ℕ → Place → Target → Bool
@@ -88,13 +93,13 @@ found_is b base stride rows s at i h l =
     first_only rows (row_named b base stride s at)
     (λ j k m n p q. distinct b base stride rows h j k m n (same_chain b (base + j * stride) (base + k * stride) s at p q)) i l
 
-as_pane_is : (o : Found) (p : ℕ) → is_pane (as_pane o) p ≡ is_at o p
-as_pane_is (found.At i) p = refl
-as_pane_is found.Nothing p = refl
+as_pane_is : (o : Option ℕ) (p : ℕ) → is_pane (as_pane o) p ≡ is_at o p
+as_pane_is (Some i) p = refl
+as_pane_is None p = refl
 
-as_material_is : (o : Found) (m : ℕ) → is_material (as_material o) m ≡ is_at o m
-as_material_is (found.At i) m = refl
-as_material_is found.Nothing m = refl
+as_material_is : (o : Option ℕ) (m : ℕ) → is_material (as_material o) m ≡ is_at o m
+as_material_is (Some i) m = refl
+as_material_is None m = refl
 
 -- the place of content c's name
 abbrev pub content_name_at : List ℕ → ℕ → ℕ
@@ -115,12 +120,12 @@ module _ (s : List ℕ) {b : List ℕ} (w : CheckedBook b) (a c : ℕ) (h : c < 
   unfolding active_reach content_reach
   pane_reached p l = rw (lt-ltb c (content_count s) h) (go (eqb (content_row s c).animation a) (eqb (content_row s c).kind 0 || eqb (content_row s c).kind 3) (eqb (content_row s c).kind 1))
     where
-      none : (z : Bool) (o : Found) → is_pane (cond z (as_material o) reached.Nothing) p ≡ false
-      none true (found.At i) = refl
-      none true found.Nothing = refl
+      none : (z : Bool) (o : Option ℕ) → is_pane (cond z (as_material o) None) p ≡ false
+      none true (Some i) = refl
+      none true None = refl
       none false o = refl
 
-      go : (x y z : Bool) → is_pane (cond x (cond y (as_pane (pane_named s b c)) (cond z (as_material (material_named s b c)) reached.Nothing)) reached.Nothing) p ≡ (x && (y && same_name b (panes_at + p * pane_bytes) s (content_name_at s c)))
+      go : (x y z : Bool) → is_pane (cond x (cond y (as_pane (pane_named s b c)) (cond z (as_material (material_named s b c)) None)) None) p ≡ (x && (y && same_name b (panes_at + p * pane_bytes) s (content_name_at s c)))
       go true true z = pane_named_lem p l
       go true false z = none z (material_named s b c)
       go false y z = refl
@@ -134,13 +139,13 @@ module _ (s : List ℕ) {b : List ℕ} (w : CheckedBook b) (a c : ℕ) (h : c < 
       kinds : (k : ℕ) → k ≡ 1 → (eqb k 0 || eqb k 3) ≡ false
       kinds k e = rw e
 
-      none : (z : Bool) (o : Found) → is_material (cond z (as_pane o) reached.Nothing) m ≡ false
-      none true (found.At i) = refl
-      none true found.Nothing = refl
+      none : (z : Bool) (o : Option ℕ) → is_material (cond z (as_pane o) None) m ≡ false
+      none true (Some i) = refl
+      none true None = refl
       none false o = refl
 
       go : (x z : Bool) → eqb (content_row s c).kind 1 ≡ z →
-          is_material (cond x (cond (eqb (content_row s c).kind 0 || eqb (content_row s c).kind 3) (as_pane (pane_named s b c)) (cond z (as_material (material_named s b c)) reached.Nothing)) reached.Nothing) m ≡
+          is_material (cond x (cond (eqb (content_row s c).kind 0 || eqb (content_row s c).kind 3) (as_pane (pane_named s b c)) (cond z (as_material (material_named s b c)) None)) None) m ≡
           (x && (z && same_name b (materials_at b + m * material_bytes) s (content_name_at s c)))
       go true true e = rw (kinds (content_row s c).kind (eqb-true (content_row s c).kind 1 e)) (material_named_lem m l)
       go true false e = none (eqb (content_row s c).kind 0 || eqb (content_row s c).kind 3) (pane_named s b c)

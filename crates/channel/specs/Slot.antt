@@ -1,7 +1,7 @@
--- A material's texture slots (document 01, "Channels": 3 textures, after three layers of five). Assumes nothing.
+-- A material's texture slots (three textures, after three layers of five). Assumes nothing.
 use Rattle.std.specs.Prelude.{ℕ, ◌+◌, ◌<◌, ◌≤◌, Bool, true, false, cond, ◌≡◌, refl, ltb}
 use Rattle.std.proofs.Common.{arith, ltb-true, lt-ltb, le-ltb}
-use Rattle.laws.specs.declared.Found.TheVariants as found
+use Rattle.std.specs.Prelude.{Some}
 use Rattle.channel.specs.Channel.{material_channels, material_layers, first_texture, slot_channel, material_channel}
 use Rattle.channel.specs.declared.Family.TheVariants.{TexturePattern}
 
@@ -26,6 +26,6 @@ slot_exactly slot = go (ltb slot material_layers) refl
     go false e = refl
 
 -- and a target of the texture family addresses the channel of its layer's slot
-pub slot_addressed : (raw slot : ℕ) → slot < material_layers → material_channel TexturePattern raw slot ≡ found.At (slot_channel slot)
+pub slot_addressed : (raw slot : ℕ) → slot < material_layers → material_channel TexturePattern raw slot ≡ Some (slot_channel slot)
 unfolding material_channel
 slot_addressed raw slot l = rw (lt-ltb slot material_layers l)

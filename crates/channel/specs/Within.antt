@@ -3,8 +3,8 @@
 use Rattle.std.specs.Prelude.{ℕ, ◌+◌, ◌*◌, ◌<◌, List, Bool, true, false, cond, ◌||◌, ◌≡◌, refl, eqb, ltb}
 use Rattle.std.proofs.Common.{arith, ltb-true}
 use Rattle.std.proofs.lemmas.Bool.{eqb-false}
-use Rattle.laws.specs.declared.Found.{Found}
-use Rattle.laws.specs.declared.Found.TheVariants as found
+use Rattle.std.specs.Prelude.{Option}
+use Rattle.std.specs.Prelude.{Some, None}
 use Rattle.field.specs.Table.{found_within}
 use Rattle.sheet.specs.Sizes.{content_count, content_bytes, row_name, contents_at}
 use Rattle.sheet.specs.Rows.{content_row}
@@ -26,16 +26,16 @@ listed_below n raw h = go (ltb raw n) refl
     go false e = h
 
 -- where a place is found, it is below n
-pub record Below (o : Found) (n : ℕ) : Type 0 where
-  pub below : (c : ℕ) → o ≡ found.At c → c < n
+pub record Below (o : Option ℕ) (n : ℕ) : Type 0 where
+  pub below : (c : ℕ) → o ≡ Some c → c < n
 
-pub at : (i n : ℕ) → i < n → Below (found.At i) n
+pub at : (i n : ℕ) → i < n → Below (Some i) n
 at i n l = record { below = λ c e. let q : i ≡ c = cc in omega arith }
 
-pub nowhere : (n : ℕ) → Below found.Nothing n
+pub nowhere : (n : ℕ) → Below None n
 nowhere n = record { below = λ c e. let z : ◌≡◌ {A = ℕ} 0 1 = cc in absurd (omega arith) }
 
-pub either : (b : Bool) (o p : Found) (n : ℕ) → (b ≡ true → Below o n) → (b ≡ false → Below p n) → Below (cond b o p) n
+pub either : (b : Bool) (o p : Option ℕ) (n : ℕ) → (b ≡ true → Below o n) → (b ≡ false → Below p n) → Below (cond b o p) n
 either true o p n h k = h refl
 either false o p n h k = k refl
 
@@ -59,30 +59,36 @@ pub record ReachedIn (b : List ℕ) (r : Reached) : Type 0 where
   pub pane : (p : ℕ) → r ≡ reached.Pane p → p < pane_count b
   pub material : (m : ℕ) → r ≡ reached.Material m → m < material_count b
 
-pub none_in : (b : List ℕ) → ReachedIn b reached.Nothing
-none_in b =
-    record {
-      pane = λ p e. let z : ◌≡◌ {A = ℕ} 0 1 = cc in absurd (omega arith);
-      material = λ m e. let z : ◌≡◌ {A = ℕ} 0 1 = cc in absurd (omega arith);
-    }
+-- where a row is reached
+pub record SomeIn (b : List ℕ) (o : Option Reached) : Type 0 where
+  pub some : (r : Reached) → o ≡ Some r → ReachedIn b r
 
-pane_in_lem : (b : List ℕ) (o : Found) → Below o (pane_count b) → ReachedIn b (as_pane o)
-pane_in_lem b (found.At i) h =
-    record {
-      pane = λ p e. let q : i ≡ p = cc in omega (arith, h.below i refl);
-      material = λ m e. let z : ◌≡◌ {A = ℕ} 0 1 = cc in absurd (omega arith);
-    }
-pane_in_lem b found.Nothing h = none_in b
+none_in : (b : List ℕ) → SomeIn b None
+none_in b = record { some = λ r e. let z : ◌≡◌ {A = ℕ} 0 1 = cc in absurd (omega arith) }
 
-material_in : (b : List ℕ) (o : Found) → Below o (material_count b) → ReachedIn b (as_material o)
-material_in b (found.At i) h =
+pane_in_lem : (b : List ℕ) (o : Option ℕ) → Below o (pane_count b) → SomeIn b (as_pane o)
+pane_in_lem b (Some i) h =
     record {
-      pane = λ p e. let z : ◌≡◌ {A = ℕ} 0 1 = cc in absurd (omega arith);
-      material = λ m e. let q : i ≡ m = cc in omega (arith, h.below i refl);
+      some = λ r k.
+          record {
+            pane = λ p e. let q : i ≡ p = cc in omega (arith, h.below i refl);
+            material = λ m e. let z : ◌≡◌ {A = ℕ} 0 1 = cc in absurd (omega arith);
+          };
     }
-material_in b found.Nothing h = none_in b
+pane_in_lem b None h = none_in b
 
-either_in : (b : List ℕ) (t : Bool) (r q : Reached) → ReachedIn b r → ReachedIn b q → ReachedIn b (cond t r q)
+material_in : (b : List ℕ) (o : Option ℕ) → Below o (material_count b) → SomeIn b (as_material o)
+material_in b (Some i) h =
+    record {
+      some = λ r k.
+          record {
+            pane = λ p e. let z : ◌≡◌ {A = ℕ} 0 1 = cc in absurd (omega arith);
+            material = λ m e. let q : i ≡ m = cc in omega (arith, h.below i refl);
+          };
+    }
+material_in b None h = none_in b
+
+either_in : (b : List ℕ) (t : Bool) (r q : Option Reached) → SomeIn b r → SomeIn b q → SomeIn b (cond t r q)
 either_in b true r q h k = h
 either_in b false r q h k = k
 
@@ -94,14 +100,14 @@ material_named_below : (s b : List ℕ) (c : ℕ) → Below (material_named s b 
 unfolding material_named
 material_named_below s b c = record { below = λ m e. found_within b (materials_at b) material_bytes (material_count b) s (contents_at s + c * content_bytes + row_name) m e }
 
-pub content_in : (s b : List ℕ) (c : ℕ) → ReachedIn b (content_reach s b c)
+pub content_in : (s b : List ℕ) (c : ℕ) → SomeIn b (content_reach s b c)
 unfolding content_reach
 content_in s b c =
     either_in b (eqb (content_row s c).kind 0 || eqb (content_row s c).kind 3) _ _
     (pane_in_lem b (pane_named s b c) (pane_named_below s b c))
     (either_in b (eqb (content_row s c).kind 1) _ _ (material_in b (material_named s b c) (material_named_below s b c)) (none_in b))
 
-pub active_in_lem : (s b : List ℕ) (a c : ℕ) → ReachedIn b (active_reach s b a c)
+pub active_in_lem : (s b : List ℕ) (a c : ℕ) → SomeIn b (active_reach s b a c)
 unfolding active_reach
 active_in_lem s b a c = either_in b (ltb c (content_count s)) _ _ (either_in b (eqb (content_row s c).animation a) _ _ (content_in s b c) (none_in b)) (none_in b)
 

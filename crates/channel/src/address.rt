@@ -1,5 +1,5 @@
 // Which channel a target addresses, by its family, its raw number and its layer.
-ghost use Rattle.std.specs.Prelude.{◌≡◌, ◌<◌};
+ghost use Rattle.std.specs.Prelude.{◌≡◌, ◌<◌, IfSome};
 ghost use Rattle.book.specs.Sizes.{material_count};
 ghost use Rattle.book.specs.Checked.{CheckedBook};
 ghost use Rattle.channel.specs.Channel.{family_of, listed, pane_channel, colour_place, material_channel, slot_channel, pane_channels, material_channels, channel_count, of_pane, of_material, row_channel};
@@ -7,7 +7,7 @@ ghost use Rattle.channel.specs.Within.{ReachedIn};
 
 use crate::corner_colours::{PANE_ALPHA, corner_channel, corner_colour};
 use crate::{Family, Reached};
-use laws::Found;
+use book::Book;
 use sheet::Target;
 
 // How many channels a pane has, and a material.
@@ -45,23 +45,30 @@ const FLAC: u32 = 0x4341_4c46;
 
 const FLMC: u32 = 0x434d_4c46;
 
-pub fn family_of(code: u32) -> Family
-    ensures { result ≡ family_of code }
-{
-    match code {
-        FLPA => Family::PaneSrt,
-        FLVI => Family::Visibility,
-        FLVC => Family::VertexColor,
-        FLTS => Family::TextureSrt,
-        FLTP => Family::TexturePattern,
-        FLIM => Family::IndirectSrt,
-        FLAC => Family::AlphaCompare,
-        FLMC => Family::MaterialColor,
-        _ => Family::Other,
+impl From<u32> for Family {
+    ghost use Rattle.std.specs.Prelude.{◌≡◌};
+    ghost use Rattle.channel.specs.Channel.{family_of};
+
+    ghost from_gives = { λ code f. f ≡ family_of code };
+
+    #[tactic(auto, unfolding(crate::specs::Channel::family_of))]
+    fn from(code: u32) -> Family {
+        match code {
+            FLPA => Family::PaneSrt,
+            FLVI => Family::Visibility,
+            FLVC => Family::VertexColor,
+            FLTS => Family::TextureSrt,
+            FLTP => Family::TexturePattern,
+            FLIM => Family::IndirectSrt,
+            FLAC => Family::AlphaCompare,
+            FLMC => Family::MaterialColor,
+            _ => Family::Other,
+        }
     }
 }
 
 // A raw number that its enum of n variants doesn't list stands for the first variant.
+#[tactic(auto, unfolding(crate::specs::Channel::listed))]
 fn listed(n: usize, raw: usize) -> usize
     requires { 0 < n }
     ensures { (result ≡ listed n raw) × (result < n) }
@@ -70,25 +77,27 @@ fn listed(n: usize, raw: usize) -> usize
 }
 
 // A pane's channel.
-pub fn pane_channel(f: Family, raw: usize) -> Found
+#[tactic(auto, using(crate::proofs::Corners::corner_by_number), unfolding(crate::specs::Channel::pane_channel))]
+pub fn pane_channel(f: Family, raw: usize) -> Option<usize>
     ensures { result ≡ pane_channel f raw }
 {
     match f {
-        Family::PaneSrt => Found::At(listed(10, raw)),
-        Family::Visibility => Found::At(VISIBLE),
+        Family::PaneSrt => Some(listed(10, raw)),
+        Family::Visibility => Some(VISIBLE),
         Family::VertexColor => {
             let i = listed(17, raw);
             if i == PANE_ALPHA {
-                Found::At(ALPHA)
+                Some(ALPHA)
             } else {
-                Found::At(corner_channel(corner_colour(i)))
+                Some(corner_channel(corner_colour(i)))
             }
         }
-        _ => Found::Nothing,
+        _ => None,
     }
 }
 
 // Black is below 4, every other index is white.
+#[tactic(auto, unfolding(crate::specs::Channel::colour_place))]
 fn colour_place(i: usize) -> usize
     ensures { (result ≡ colour_place i) × (result < 8) }
 {
@@ -96,32 +105,23 @@ fn colour_place(i: usize) -> usize
 }
 
 // A material's channel. Where the family has layers, those from 3 up are skipped.
-pub fn material_channel(f: Family, raw: usize, layer: usize) -> Found
+#[tactic(auto, unfolding(crate::specs::Channel::material_channel, crate::specs::Channel::slot_channel))]
+pub fn material_channel(f: Family, raw: usize, layer: usize) -> Option<usize>
     ensures { result ≡ material_channel f raw layer }
 {
     match f {
-        Family::TextureSrt => {
-            if layer < MATERIAL_LAYERS {
-                Found::At(layer * 5 + listed(5, raw))
-            } else {
-                Found::Nothing
-            }
-        }
-        Family::TexturePattern => {
-            if layer < MATERIAL_LAYERS {
-                Found::At(slot_channel(layer as u16) as usize)
-            } else {
-                Found::Nothing
-            }
-        }
-        Family::IndirectSrt => Found::At(18 + listed(3, raw)),
-        Family::AlphaCompare => Found::At(21),
-        Family::MaterialColor => Found::At(22 + colour_place(listed(COLOUR_VARIANTS, raw))),
-        _ => Found::Nothing,
+        Family::TextureSrt if layer < MATERIAL_LAYERS => Some(layer * 5 + listed(5, raw)),
+        Family::TexturePattern if layer < MATERIAL_LAYERS => Some(FIRST_TEXTURE + layer),
+        Family::IndirectSrt => Some(18 + listed(3, raw)),
+        Family::AlphaCompare => Some(21),
+        Family::MaterialColor => Some(22 + colour_place(listed(COLOUR_VARIANTS, raw))),
+        _ => None,
     }
 }
 
-// The channel of a material's texture slot; one past the last where there is no such slot.
+// The channel of a material's texture slot; one past the last where there is no such slot: C and the command line hand on the number, and a reading
+// declines it.
+#[tactic(auto, unfolding(crate::specs::Channel::slot_channel))]
 pub fn slot_channel(slot: u16) -> u16
     ensures { result ≡ slot_channel slot }
 {
@@ -133,6 +133,7 @@ pub fn slot_channel(slot: u16) -> u16
 }
 
 // How many channels a book has.
+#[tactic(auto, unfolding(crate::specs::Channel::channel_count))]
 pub fn channel_count(b: &[u8]) -> usize
     requires { CheckedBook b.now }
     ensures { result ≡ channel_count b.now }
@@ -141,6 +142,7 @@ pub fn channel_count(b: &[u8]) -> usize
 }
 
 // Channel c of pane p.
+#[tactic(auto, unfolding(crate::specs::Channel::of_pane))]
 pub fn of_pane(p: usize, c: usize) -> usize
     requires { (p < 65536) × (c < pane_channels) }
     ensures { result ≡ of_pane p c }
@@ -149,6 +151,7 @@ pub fn of_pane(p: usize, c: usize) -> usize
 }
 
 // Channel c of material m.
+#[tactic(auto, unfolding(crate::specs::Channel::of_material))]
 pub fn of_material(b: &[u8], m: usize, c: usize) -> usize
     requires { CheckedBook b.now × ((m < material_count b.now) × (c < material_channels)) }
     ensures { result ≡ of_material b.now m c }
@@ -157,37 +160,27 @@ pub fn of_material(b: &[u8], m: usize, c: usize) -> usize
 }
 
 // The channel of a pane that a target's row addresses.
-pub fn pane_row_channel(row: Target) -> Found
+pub fn pane_row_channel(row: Target) -> Option<usize>
     ensures { result ≡ pane_channel (family_of row.code) row.raw }
 {
-    pane_channel(family_of(row.code), row.raw)
+    pane_channel(Family::from(row.code), row.raw)
 }
 
 // The channel of a material likewise.
-pub fn material_row_channel(row: Target) -> Found
+pub fn material_row_channel(row: Target) -> Option<usize>
     ensures { result ≡ material_channel (family_of row.code) row.raw row.layer }
 {
-    material_channel(family_of(row.code), row.raw, row.layer)
+    material_channel(Family::from(row.code), row.raw, row.layer)
 }
 
 // The channel that a target's row addresses in the row that is reached. The family is asked for last: many targets reach nothing.
-pub fn row_channel(b: &[u8], r: Reached, row: Target) -> Found
-    requires { CheckedBook b.now × ReachedIn b.now r }
-    ensures { result ≡ row_channel b.now r row }
+#[tactic(auto, unfolding(crate::specs::Channel::row_channel, crate::specs::Channel::address))]
+pub fn row_channel(book: &Book<'_>, reached: Option<Reached>, row: Target) -> Option<usize>
+    requires { IfSome reached (ReachedIn book.now.bytes.now) }
+    ensures { result ≡ row_channel book.now.bytes.now reached row }
 {
-    match r {
-        Reached::Pane(p) => {
-            let Found::At(c) = pane_row_channel(row) else {
-                return Found::Nothing;
-            };
-            Found::At(of_pane(p, c))
-        }
-        Reached::Material(m) => {
-            let Found::At(c) = material_row_channel(row) else {
-                return Found::Nothing;
-            };
-            Found::At(of_material(b, m, c))
-        }
-        Reached::Nothing => Found::Nothing,
+    match reached? {
+        Reached::Pane(p) => Some(of_pane(p, pane_row_channel(row)?)),
+        Reached::Material(m) => Some(of_material(book.bytes, m, material_row_channel(row)?)),
     }
 }

@@ -2,24 +2,25 @@
 ghost use Rattle.std.specs.Prelude.{◌≡◌, ◌<◌};
 ghost use Rattle.channel.specs.CornerColours.{pane_alpha, corner_colour, corner_channel};
 
-#[derive(Clone, Copy)]
+// Each has the number of its channel: they follow alpha.
+#[derive(Clone, Copy, Debug, PartialEq, Eq)]
 pub enum CornerColour {
-    LeftTopRed,
-    LeftTopGreen,
-    LeftTopBlue,
-    LeftTopAlpha,
-    RightTopRed,
-    RightTopGreen,
-    RightTopBlue,
-    RightTopAlpha,
-    LeftBottomRed,
-    LeftBottomGreen,
-    LeftBottomBlue,
-    LeftBottomAlpha,
-    RightBottomRed,
-    RightBottomGreen,
-    RightBottomBlue,
-    RightBottomAlpha,
+    LeftTopRed = 12,
+    LeftTopGreen = 13,
+    LeftTopBlue = 14,
+    LeftTopAlpha = 15,
+    RightTopRed = 16,
+    RightTopGreen = 17,
+    RightTopBlue = 18,
+    RightTopAlpha = 19,
+    LeftBottomRed = 20,
+    LeftBottomGreen = 21,
+    LeftBottomBlue = 22,
+    LeftBottomAlpha = 23,
+    RightBottomRed = 24,
+    RightBottomGreen = 25,
+    RightBottomBlue = 26,
+    RightBottomAlpha = 27,
 }
 
 // The raw number of `PaneAlpha`, which is no corner's: the corner colours have those below it.
@@ -52,26 +53,8 @@ pub fn corner_colour(raw: usize) -> CornerColour
     CORNER_COLOURS[raw]
 }
 
-// A corner colour's channel: they follow alpha.
 pub fn corner_channel(c: CornerColour) -> usize
     ensures { result ≡ corner_channel c }
 {
-    match c {
-        CornerColour::LeftTopRed => 12,
-        CornerColour::LeftTopGreen => 13,
-        CornerColour::LeftTopBlue => 14,
-        CornerColour::LeftTopAlpha => 15,
-        CornerColour::RightTopRed => 16,
-        CornerColour::RightTopGreen => 17,
-        CornerColour::RightTopBlue => 18,
-        CornerColour::RightTopAlpha => 19,
-        CornerColour::LeftBottomRed => 20,
-        CornerColour::LeftBottomGreen => 21,
-        CornerColour::LeftBottomBlue => 22,
-        CornerColour::LeftBottomAlpha => 23,
-        CornerColour::RightBottomRed => 24,
-        CornerColour::RightBottomGreen => 25,
-        CornerColour::RightBottomBlue => 26,
-        CornerColour::RightBottomAlpha => 27,
-    }
+    c as usize
 }

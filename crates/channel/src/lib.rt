@@ -1,4 +1,4 @@
-// Which channel of a book a target addresses (document 01, "Channels").
+// Which channel of a book a target addresses.
 #![tactic(auto)]
 
 mod address;
@@ -7,15 +7,15 @@ mod place;
 mod reach;
 
 pub use address::{
-    ALPHA, MATERIAL_CHANNELS, MATERIAL_LAYERS, PANE_CHANNELS, VISIBLE, channel_count, family_of,
+    ALPHA, MATERIAL_CHANNELS, MATERIAL_LAYERS, PANE_CHANNELS, VISIBLE, channel_count,
     material_row_channel, of_material, of_pane, pane_channel, pane_row_channel, row_channel,
     slot_channel,
 };
 pub use place::{Place, hits, place_of};
-pub use reach::{Held, held_for, material_index, none_held, pane_index};
+pub use reach::{Held, Names};
 
 // A target's family, by its four-letter code.
-#[derive(Clone, Copy)]
+#[derive(Clone, Copy, Debug, PartialEq, Eq)]
 pub enum Family {
     PaneSrt,
     Visibility,
@@ -28,10 +28,9 @@ pub enum Family {
     Other,
 }
 
-// The row of the book that a content reaches.
-#[derive(Clone, Copy)]
+// A row of the book that a content reaches.
+#[derive(Clone, Copy, Debug, PartialEq, Eq)]
 pub enum Reached {
     Pane(usize),
     Material(usize),
-    Nothing,
 }

@@ -1,25 +1,24 @@
 // Whether a target addresses one given channel: the channel's row of the book is known, so its name is compared and none is searched for.
 ghost use Rattle.std.specs.Prelude.{◌≡◌, ◌<◌};
-ghost use Rattle.laws.specs.Swept.{is_at};
 ghost use Rattle.sheet.specs.Sizes.{content_count};
-ghost use Rattle.sheet.specs.Checked.{Checked};
-ghost use Rattle.book.specs.Sizes.{pane_count, material_count};
 ghost use Rattle.book.specs.Checked.{CheckedBook};
 ghost use Rattle.channel.specs.Channel.{active_reach};
-ghost use Rattle.channel.specs.Place.{place_of, is_pane, is_material, hits, PlacedIn};
+ghost use Rattle.channel.specs.Within.{ReachedIn};
+ghost use Rattle.channel.specs.Place.{place_of, is_row, hits, PlacedIn};
 
+use crate::Reached;
 use crate::address::{MATERIAL_CHANNELS, PANE_CHANNELS, material_row_channel, pane_row_channel};
-use book::{MATERIAL_BYTES, PANE_BYTES};
-use laws::Found;
-use sheet::{CONTENT_BYTES, ROW_NAME, Target};
+use book::{Book, MATERIAL_BYTES, PANE_BYTES};
+use sheet::{CONTENT_BYTES, ROW_NAME, Sheet, Target};
 
 // Where a channel stands: a pane's or a material's row, and its number there.
-#[derive(Clone, Copy)]
+#[derive(Clone, Copy, Debug, PartialEq, Eq)]
 pub enum Place {
     Pane(usize, usize),
     Material(usize, usize),
 }
 
+#[tactic(auto, unfolding(crate::specs::Place::place_of))]
 pub fn place_of(b: &[u8], c: usize) -> Place
     requires { CheckedBook b.now }
     ensures { result ≡ place_of b.now c }
@@ -32,63 +31,43 @@ pub fn place_of(b: &[u8], c: usize) -> Place
     Place::Material(rest / MATERIAL_CHANNELS, rest % MATERIAL_CHANNELS)
 }
 
-fn is_at(f: Found, c: usize) -> bool
-    ensures { result ≡ is_at f c }
+// Whether content c reaches a row of the book while animation a is active. Names are distinct, so that is the row with its name.
+#[tactic(auto, using(crate::specs::Place::pane_reached, crate::specs::Place::material_reached))]
+fn reaches(sheet: &Sheet<'_>, book: &Book<'_>, a: usize, c: usize, row: Reached) -> bool
+    requires content { c < content_count sheet.now.bytes.now }
+    requires row { ReachedIn book.now.bytes.now row }
+    ensures { result ≡ is_row (active_reach sheet.now.bytes.now book.now.bytes.now a c) row }
 {
-    match f {
-        Found::At(k) => k == c,
-        Found::Nothing => false,
-    }
-}
-
-// Whether content c reaches pane p while animation a is active. Labels are distinct, so that is the pane with its name.
-fn reaches_pane(s: &[u8], b: &[u8], a: usize, c: usize, p: usize) -> bool
-    requires { Checked s.now × (CheckedBook b.now × ((c < content_count s.now) × (p < pane_count b.now))) }
-    ensures { result ≡ is_pane (active_reach s.now b.now a c) p }
-{
-    let row = sheet::content_row(s, c);
-    if row.animation != a {
-        return false;
-    }
-    if (row.kind == 0) | (row.kind == 3) {
-        let at = sheet::contents_at(s) + c * CONTENT_BYTES + ROW_NAME;
-        return field::same_name(b, book::HEAD + p * PANE_BYTES, s, at);
-    }
-    false
-}
-
-fn reaches_material(s: &[u8], b: &[u8], a: usize, c: usize, m: usize) -> bool
-    requires { Checked s.now × (CheckedBook b.now × ((c < content_count s.now) × (m < material_count b.now))) }
-    ensures { result ≡ is_material (active_reach s.now b.now a c) m }
-{
-    let row = sheet::content_row(s, c);
-    if row.animation != a {
-        return false;
-    }
-    if row.kind == 1 {
-        let at = sheet::contents_at(s) + c * CONTENT_BYTES + ROW_NAME;
-        return field::same_name(b, book::materials_at(b) + m * MATERIAL_BYTES, s, at);
-    }
-    false
+    let content = sheet.content(c);
+    let (named, at) = match row {
+        Reached::Pane(p) => (
+            (content.kind == 0) | (content.kind == 3),
+            book::HEAD + p * PANE_BYTES,
+        ),
+        Reached::Material(m) => (
+            content.kind == 1,
+            book::materials_at(book.bytes) + m * MATERIAL_BYTES,
+        ),
+    };
+    let name = sheet::contents_at(sheet.bytes) + c * CONTENT_BYTES + ROW_NAME;
+    content.animation == a && named && field::same_name(book.bytes, at, sheet.bytes, name)
 }
 
 // Whether a target's row addresses the channel at a place. The channel's number is compared first: that is cheap, and seldom passes.
-pub fn hits(s: &[u8], b: &[u8], a: usize, place: Place, row: Target) -> bool
-    requires { Checked s.now × (CheckedBook b.now × ((row.content < content_count s.now) × PlacedIn b.now place)) }
-    ensures { result ≡ hits s.now b.now a place row }
+#[tactic(auto, unfolding(crate::specs::Place::hits))]
+pub fn hits(sheet: &Sheet<'_>, book: &Book<'_>, a: usize, place: Place, row: Target) -> bool
+    requires content { row.content < content_count sheet.now.bytes.now }
+    requires place { PlacedIn book.now.bytes.now place }
+    ensures { result ≡ hits sheet.now.bytes.now book.now.bytes.now a place row }
 {
     match place {
         Place::Pane(p, k) => {
-            if is_at(pane_row_channel(row), k) {
-                return reaches_pane(s, b, a, row.content, p);
-            }
-            false
+            pane_row_channel(row) == Some(k)
+                && reaches(sheet, book, a, row.content, Reached::Pane(p))
         }
         Place::Material(m, k) => {
-            if is_at(material_row_channel(row), k) {
-                return reaches_material(s, b, a, row.content, m);
-            }
-            false
+            material_row_channel(row) == Some(k)
+                && reaches(sheet, book, a, row.content, Reached::Material(m))
         }
     }
 }

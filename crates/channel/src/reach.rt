@@ -1,119 +1,129 @@
-// The row of the book that a content reaches.
+// The row of the book that a content reaches, by its name.
 ghost use Rattle.std.specs.Prelude.{◌≡◌, ◌<◌};
-ghost use Rattle.field.specs.Index.{Indexed};
-ghost use Rattle.sheet.specs.Sizes.{content_count};
-ghost use Rattle.sheet.specs.Checked.{Checked};
 ghost use Rattle.book.specs.Sizes.{pane_count, material_count, pane_bytes, material_bytes, panes_at, materials_at};
-ghost use Rattle.book.specs.Checked.{CheckedBook};
-ghost use Rattle.channel.specs.Channel.{as_pane, as_material, content_reach, active_reach};
-ghost use Rattle.channel.specs.Held.{none_held, held_for, Searched};
+ghost use Rattle.field.specs.Index.{Indexed};
+ghost use Rattle.channel.specs.Held.{Searched};
 
 use crate::Reached;
-use book::{MATERIAL_BYTES, PANE_BYTES};
-use field::{BUCKETS, find_indexed};
-use laws::Found;
-use sheet::{CONTENT_BYTES, ROW_NAME};
+use book::{Book, MATERIAL_BYTES, PANE_BYTES};
+use field::BUCKETS;
+use sheet::{CONTENT_BYTES, ROW_NAME, Sheet};
 
-// A content, and the row that it reaches while an animation is active: contents of targets never fall, so each name is searched once.
-#[derive(Clone, Copy)]
+// A content, and the row that it reaches while an animation is active.
+#[derive(Clone, Copy, Debug)]
 pub struct Held {
     pub content: usize,
-    pub reached: Reached,
+    pub reached: Option<Reached>,
 }
 
-fn as_pane(f: Found) -> Reached
-    ensures { result ≡ as_pane f }
+// A book, with an index of the names of its panes and one of those of its materials.
+#[derive(Clone, Copy)]
+pub struct Names<'a> {
+    pub book: Book<'a>,
+    panes: [u8; BUCKETS],
+    materials: [u8; BUCKETS],
+    ghost searched: { Searched book.bytes.now panes materials },
+}
+
+fn labels<'a>(book: &Book<'a>) -> field::Names<'a>
+    ensures table { result.table.now ≡ book.now.bytes.now }
+    ensures base { result.base ≡ panes_at }
+    ensures stride { result.stride ≡ pane_bytes }
+    ensures rows { result.rows ≡ pane_count book.now.bytes.now }
 {
-    match f {
-        Found::At(i) => Reached::Pane(i),
-        Found::Nothing => Reached::Nothing,
+    field::Names {
+        table: book.bytes,
+        base: book::HEAD,
+        stride: PANE_BYTES,
+        rows: book.pane_count(),
     }
 }
 
-fn as_material(f: Found) -> Reached
-    ensures { result ≡ as_material f }
+fn material_names<'a>(book: &Book<'a>) -> field::Names<'a>
+    ensures table { result.table.now ≡ book.now.bytes.now }
+    ensures base { result.base ≡ materials_at book.now.bytes.now }
+    ensures stride { result.stride ≡ material_bytes }
+    ensures rows { result.rows ≡ material_count book.now.bytes.now }
 {
-    match f {
-        Found::At(i) => Reached::Material(i),
-        Found::Nothing => Reached::Nothing,
+    field::Names {
+        table: book.bytes,
+        base: book::materials_at(book.bytes),
+        stride: MATERIAL_BYTES,
+        rows: book.material_count(),
     }
 }
 
-// An index of the book's pane names, or a blank one: it pays where many names are searched for.
-pub fn pane_index(b: &[u8], many: bool) -> [u8; BUCKETS]
-    requires { CheckedBook b.now }
-    ensures { Indexed b.now panes_at pane_bytes (pane_count b.now) result }
+// An index of a table's names, or a blank one: it pays where many names are searched for.
+fn index(names: &field::Names<'_>, many: bool) -> [u8; BUCKETS]
+    requires { names.now.rows < 255 }
+    ensures { Indexed names.now.table.now names.now.base names.now.stride names.now.rows result }
 {
     if many {
-        return field::index_names(b, book::HEAD, PANE_BYTES, book::pane_count(b));
-    }
-    field::blank_index()
-}
-
-// An index of its material names likewise.
-pub fn material_index(b: &[u8], many: bool) -> [u8; BUCKETS]
-    requires { CheckedBook b.now }
-    ensures { Indexed b.now (materials_at b.now) material_bytes (material_count b.now) result }
-{
-    if many {
-        let base = book::materials_at(b);
-        return field::index_names(b, base, MATERIAL_BYTES, book::material_count(b));
-    }
-    field::blank_index()
-}
-
-fn content_reach(s: &[u8], b: &[u8], panes: &[u8], materials: &[u8], c: usize) -> Reached
-    requires { Checked s.now × (Searched b.now panes.now materials.now × (c < content_count s.now)) }
-    ensures { result ≡ content_reach s.now b.now c }
-{
-    let row = sheet::content_row(s, c);
-    let at = sheet::contents_at(s) + c * CONTENT_BYTES + ROW_NAME;
-    if (row.kind == 0) | (row.kind == 3) {
-        return as_pane(find_indexed(b, book::HEAD, PANE_BYTES, book::pane_count(b), panes, s, at));
-    }
-    if row.kind == 1 {
-        let base = book::materials_at(b);
-        return as_material(find_indexed(
-            b,
-            base,
-            MATERIAL_BYTES,
-            book::material_count(b),
-            materials,
-            s,
-            at,
-        ));
-    }
-    Reached::Nothing
-}
-
-// The same where the content is one of animation a's.
-fn active_reach(s: &[u8], b: &[u8], panes: &[u8], materials: &[u8], a: usize, c: usize) -> Reached
-    requires { Checked s.now × (Searched b.now panes.now materials.now × (c < content_count s.now)) }
-    ensures { result ≡ active_reach s.now b.now a c }
-{
-    if sheet::content_row(s, c).animation == a {
-        return content_reach(s, b, panes, materials, c);
-    }
-    Reached::Nothing
-}
-
-// No content is held: 65,536 is the number of none.
-pub fn none_held() -> Held
-    ensures { result ≡ none_held }
-{
-    Held {
-        content: 65536,
-        reached: Reached::Nothing,
+        names.index()
+    } else {
+        field::blank_index()
     }
 }
 
-// Content c, with what it reaches.
-pub fn held_for(s: &[u8], b: &[u8], panes: &[u8], materials: &[u8], a: usize, c: usize) -> Held
-    requires { Checked s.now × (Searched b.now panes.now materials.now × (c < content_count s.now)) }
-    ensures { result ≡ held_for s.now b.now a c }
-{
-    Held {
-        content: c,
-        reached: active_reach(s, b, panes, materials, a, c),
+impl<'a> Names<'a> {
+    ghost use Rattle.std.specs.Prelude.{◌≡◌, ◌<◌, IfSome};
+    ghost use Rattle.sheet.specs.Sizes.{content_count};
+    ghost use Rattle.channel.specs.Channel.{content_reach, active_reach};
+    ghost use Rattle.channel.specs.Held.{held_for, Holds};
+
+    // `many_panes` and `many_materials` say whether many of each are searched for.
+    pub fn new(book: Book<'a>, many_panes: bool, many_materials: bool) -> Names<'a>
+        ensures { result.book.bytes.now ≡ book.entry.bytes.now }
+    {
+        Names {
+            book,
+            panes: index(&labels(&book), many_panes),
+            materials: index(&material_names(&book), many_materials),
+        }
+    }
+
+    #[tactic(auto, using(book::specs::Checked::label_fields, book::specs::Checked::name_fields), unfolding(crate::specs::Channel::content_reach, crate::specs::Channel::pane_named, crate::specs::Channel::material_named))]
+    fn content_reach(&self, sheet: &Sheet<'_>, c: usize) -> Option<Reached>
+        requires { c < content_count sheet.now.bytes.now }
+        ensures { result ≡ content_reach sheet.now.bytes.now self.now.book.bytes.now c }
+    {
+        let name = sheet::contents_at(sheet.bytes) + c * CONTENT_BYTES + ROW_NAME;
+        match sheet.content(c).kind {
+            0 | 3 => labels(&self.book)
+                .find_indexed(&self.panes, sheet.bytes, name)
+                .map(|p| Reached::Pane(p)),
+            1 => material_names(&self.book)
+                .find_indexed(&self.materials, sheet.bytes, name)
+                .map(|m| Reached::Material(m)),
+            _ => None,
+        }
+    }
+
+    // The same where the content is one of animation a's.
+    #[tactic(auto, unfolding(crate::specs::Channel::active_reach))]
+    fn active_reach(&self, sheet: &Sheet<'_>, a: usize, c: usize) -> Option<Reached>
+        requires { c < content_count sheet.now.bytes.now }
+        ensures { result ≡ active_reach sheet.now.bytes.now self.now.book.bytes.now a c }
+    {
+        if sheet.content(c).animation == a {
+            self.content_reach(sheet, c)
+        } else {
+            None
+        }
+    }
+
+    // Content c with what it reaches: what is held already, if that is content c's. Contents of targets never fall, so each name is searched for once.
+    pub fn held_for(&self, sheet: &Sheet<'_>, a: usize, c: usize, held: Option<Held>) -> Held
+        requires content { c < content_count sheet.now.bytes.now }
+        requires held { IfSome held (Holds sheet.now.bytes.now self.now.book.bytes.now a) }
+        ensures { result ≡ held_for sheet.now.bytes.now self.now.book.bytes.now a c }
+    {
+        match held {
+            Some(h) if h.content == c => h,
+            _ => Held {
+                content: c,
+                reached: self.active_reach(sheet, a, c),
+            },
+        }
     }
 }

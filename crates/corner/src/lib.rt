@@ -41,6 +41,7 @@ fn no_corners() -> Corners
 }
 
 // The corners of a pane.
+#[tactic(auto, unfolding(crate::specs::Calls::placed_of))]
 pub fn corners(
     center: Vector2,
     size: Vector2,
@@ -50,46 +51,48 @@ pub fn corners(
 ) -> Placed
     ensures { result ≡ placed_of center size origin_x origin_y rotation }
 {
-    let refusal = checks::corners_refusal(center, size, origin_x, origin_y, rotation);
-    if refusal != ACCEPTED {
-        let corners = no_corners();
-        return Placed { refusal, corners };
-    }
-    let corners = Corners::compute(center, size, origin_x, origin_y, rotation);
-    Placed {
-        refusal: ACCEPTED,
-        corners,
+    match checks::check_corners(center, size, origin_x, origin_y, rotation) {
+        Ok(()) => Placed {
+            refusal: ACCEPTED,
+            corners: Corners::compute(center, size, origin_x, origin_y, rotation),
+        },
+        Err(e) => Placed {
+            refusal: e.number(),
+            corners: no_corners(),
+        },
     }
 }
 
 // A corner set moved by delta.
+#[tactic(auto, unfolding(crate::specs::Calls::moved_of))]
 pub fn translate(corners: Corners, delta: Vector2) -> Placed
     ensures { result ≡ moved_of corners delta }
 {
-    let refusal = checks::translate_refusal(corners, delta);
-    if refusal != ACCEPTED {
-        let corners = no_corners();
-        return Placed { refusal, corners };
-    }
-    let corners = corners.translate(delta);
-    Placed {
-        refusal: ACCEPTED,
-        corners,
+    match checks::check_translate(corners, delta) {
+        Ok(()) => Placed {
+            refusal: ACCEPTED,
+            corners: corners.translate(delta),
+        },
+        Err(e) => Placed {
+            refusal: e.number(),
+            corners: no_corners(),
+        },
     }
 }
 
 // A point about a centre, turned by three angles in degrees.
+#[tactic(auto, unfolding(crate::specs::Calls::turned_of))]
 pub fn rotate_point(point: Vector2, center: Vector2, rotation: Vector3) -> Turned
     ensures { result ≡ turned_of point center rotation }
 {
-    let refusal = checks::rotate_refusal(point, center, rotation);
-    if refusal != ACCEPTED {
-        let point = Vector2 { x: 0.0, y: 0.0 };
-        return Turned { refusal, point };
-    }
-    let point = Corners::rotate_point(point, center, rotation);
-    Turned {
-        refusal: ACCEPTED,
-        point,
+    match checks::check_rotate(point, center, rotation) {
+        Ok(()) => Turned {
+            refusal: ACCEPTED,
+            point: Corners::rotate_point(point, center, rotation),
+        },
+        Err(e) => Turned {
+            refusal: e.number(),
+            point: Vector2 { x: 0.0, y: 0.0 },
+        },
     }
 }

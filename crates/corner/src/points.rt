@@ -21,43 +21,35 @@ fn turn_back(degrees: f32) -> SinCos
     float::sin_cos(-float::radians(degrees))
 }
 
-// A rotation as its points take it: whether it is all zero, and else the sine and cosine of each angle, turned the other way.
+// The sine and cosine of each angle of a rotation, turned the other way.
 #[derive(Clone, Copy)]
 struct Turns {
-    still: bool,
     x: SinCos,
     y: SinCos,
     z: SinCos,
 }
 
-// Made once for all points that it turns.
-fn turns_of(rotation: Vector3) -> Turns
+// A rotation as its points take it, made once for all of them: none where it is all zero.
+#[tactic(auto, unfolding(crate::specs::Turns::turns_of))]
+fn turns_of(rotation: Vector3) -> Option<Turns>
     ensures { result ≡ turns_of rotation }
 {
     if (rotation.x == 0.0) & (rotation.y == 0.0) & (rotation.z == 0.0) {
-        let unturned = SinCos { sin: 0.0, cos: 1.0 };
-        return Turns {
-            still: true,
-            x: unturned,
-            y: unturned,
-            z: unturned,
-        };
-    }
-    let x = turn_back(rotation.x);
-    let y = turn_back(rotation.y);
-    let z = turn_back(rotation.z);
-    Turns {
-        still: false,
-        x,
-        y,
-        z,
+        None
+    } else {
+        Some(Turns {
+            x: turn_back(rotation.x),
+            y: turn_back(rotation.y),
+            z: turn_back(rotation.z),
+        })
     }
 }
 
 // A point of the plane about the centre, turned about z, then y, then x. Its own z is 0.
-fn turn(point: Vector2, center: Vector2, x: SinCos, y: SinCos, z: SinCos) -> Vector2
-    ensures { result ≡ turned point center x y z }
+fn turn(point: Vector2, center: Vector2, t: Turns) -> Vector2
+    ensures { result ≡ turned point center t.x t.y t.z }
 {
+    let Turns { x, y, z } = t;
     let x1 = point.x * z.cos - point.y * z.sin;
     let y1 = point.x * z.sin + point.y * z.cos;
     let x2 = x1 * y.cos + 0.0 * y.sin;
@@ -70,16 +62,19 @@ fn turn(point: Vector2, center: Vector2, x: SinCos, y: SinCos, z: SinCos) -> Vec
 }
 
 // A point about the centre under a rotation.
-fn rotate_by(point: Vector2, center: Vector2, t: Turns) -> Vector2
-    ensures { result ≡ rotated_by point center t }
+#[tactic(auto, unfolding(crate::specs::Turns::rotated_by))]
+fn rotate_by(point: Vector2, center: Vector2, turns: Option<Turns>) -> Vector2
+    ensures { result ≡ rotated_by point center turns }
 {
-    if t.still {
-        return add(center, point);
+    match turns {
+        None => add(center, point),
+        Some(t) => turn(point, center, t),
     }
-    turn(point, center, t.x, t.y, t.z)
 }
 
 // Where a pane of this size starts, counted from its pivot: origin 0 is the centre, 1 left or top, 2 right or bottom.
+// The origin stays a number: C hands it in, and its row of the table is its only test.
+#[tactic(auto, unfolding(crate::specs::Corners::start_of))]
 fn start(size: f32, origin: u8) -> f32
     ensures { result ≡ start_of size origin }
 {
@@ -92,6 +87,7 @@ fn start(size: f32, origin: u8) -> f32
 
 impl Corners {
     // A point about the centre, turned by three angles in degrees.
+    #[tactic(auto, using(crate::specs::Turns::turned_once))]
     pub fn rotate_point(point: Vector2, center: Vector2, rotation: Vector3) -> Vector2
         ensures { result ≡ rotated point center rotation }
     {
@@ -99,6 +95,7 @@ impl Corners {
     }
 
     // The corners of a pane of this size about its pivot, which is the centre.
+    #[tactic(auto, using(crate::specs::Turns::turned_once), unfolding(crate::specs::Corners::corners_of))]
     pub fn compute(
         center: Vector2,
         size: Vector2,
@@ -113,15 +110,11 @@ impl Corners {
         let rx = lx + size.x;
         let by = ly + size.y;
         let t = turns_of(rotation);
-        let tl = rotate_by(Vector2 { x: lx, y: ly }, center, t);
-        let tr = rotate_by(Vector2 { x: rx, y: ly }, center, t);
-        let bl = rotate_by(Vector2 { x: lx, y: by }, center, t);
-        let br = rotate_by(Vector2 { x: rx, y: by }, center, t);
         Corners {
-            topleft: tl,
-            topright: tr,
-            bottomleft: bl,
-            bottomright: br,
+            topleft: rotate_by(Vector2 { x: lx, y: ly }, center, t),
+            topright: rotate_by(Vector2 { x: rx, y: ly }, center, t),
+            bottomleft: rotate_by(Vector2 { x: lx, y: by }, center, t),
+            bottomright: rotate_by(Vector2 { x: rx, y: by }, center, t),
         }
     }
 
@@ -129,15 +122,11 @@ impl Corners {
     pub fn translate(self, delta: Vector2) -> Corners
         ensures { result ≡ translated self delta }
     {
-        let tl = self.topleft;
-        let tr = self.topright;
-        let bl = self.bottomleft;
-        let br = self.bottomright;
         Corners {
-            topleft: add(tl, delta),
-            topright: add(tr, delta),
-            bottomleft: add(bl, delta),
-            bottomright: add(br, delta),
+            topleft: add(self.topleft, delta),
+            topright: add(self.topright, delta),
+            bottomleft: add(self.bottomleft, delta),
+            bottomright: add(self.bottomright, delta),
         }
     }
 }

@@ -1,4 +1,2 @@
 -- The laws that the proofs of this crate cite; when an edit is unchanged.
-pub mod Laws
-pub mod Fits
 pub mod Unchanged

@@ -10,15 +10,8 @@ use Rattle.float.specs.Numbers.{zero', minus_zero, same_bits}
 use Rattle.keys.specs.Keys.{keys_ok}
 use Rattle.curve.specs.declared.Key.{Key}
 use Rattle.curve.specs.Keys as curve
+pub use Rattle.curve.specs.Lists.{Keys, keys}
 use Rattle.curve.specs.Before.{Held}
-
-pub record Keys : Type 0 where
-  pub frames : List Float
-  pub values : List Float
-  pub slopes : List Float
-
-abbrev pub keys : List Float → List Float → List Float → Keys
-keys fs vs ss = record { frames = fs; values = vs; slopes = ss }
 
 -- the keys that three lent slices hold
 abbrev pub lent : Bor (List Float) → Bor (List Float) → Bor (List Float) → Keys

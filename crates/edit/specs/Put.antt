@@ -26,9 +26,9 @@ use Rattle.keys.specs.Checked.{KeysChecked, keys_checked, frame_finite_lem, valu
 use Rattle.curve.specs.declared.Key.{Key}
 use Rattle.curve.specs.Curve.{kind_constant, kind_step}
 use Rattle.edit.specs.declared.spot.Spot.{Spot}
-use Rattle.edit.specs.Keys.{Keys, key_at, put_key, put_get, put_length, Within, same_key, keys_ok_of}
+use Rattle.edit.specs.Keys.{Keys, keys, key_at, put_key, put_get, put_length, Within, same_key, keys_ok_of}
 use Rattle.edit.specs.Edit.{has_key, place, spot_of}
-use Rattle.edit.specs.Spot.{InsideAll}
+use Rattle.edit.specs.Spot.{Inside, InsideAll}
 
 -- all finite
 unfoldable pub finite_numbers : Key → Bool
@@ -154,6 +154,23 @@ unfolding has_key
 has_key_lem s track key e =
     let k = both (ltb track (target_count s)) (ltb key (target_row s track).count) e in
     (ltb-true track (target_count s) k.0, ltb-true key (target_row s track).count k.1)
+
+-- checked keys keep the key rules
+pub checked_ok : {s : List ℕ} {fs vs ss : List Float} → Checked s → KeysChecked s fs vs ss → keys_ok_of s (keys fs vs ss) ≡ true
+unfolding key_rules
+checked_ok {s} {fs} {vs} {ss} w c = keys_are w fs vs ss c.frames c.values c.slopes ∙ rw (c.numbers, c.tracks)
+
+-- the place of a track's key, in a sheet whose keys are checked
+pub ready_inside : {s : List ℕ} {fs vs ss : List Float} → Checked s → KeysChecked s fs vs ss → (track key : ℕ) → has_key s track key ≡ true → Inside fs (spot_of s track key)
+unfolding spot_of place
+ready_inside {s} {fs} w c track key e =
+    let h = has_key_lem s track key e in
+    let n = target_keys w track h.0 in
+    record {
+      here = omega (arith, n, h.1, c.frames);
+      before = omega arith;
+      after = λ m. omega (arith, ltb-true (key + 1) (target_row s track).count m, n, c.frames);
+    }
 
 -- ---- the keys of a sheet, with x put at a track's key
 module _ {s : List ℕ} (w : Checked s) (ks : Keys) (ok : keys_ok_of s ks ≡ true) (track key : ℕ) (lt : track < target_count s) (lk : key < (target_row s track).count) where

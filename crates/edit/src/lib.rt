@@ -4,6 +4,7 @@
 pub mod put;
 pub mod request;
 pub mod spot;
+pub mod track_key;
 
-// The animation's number that stands for none.
+// The animation's number that stands for none, since C hands a selection over as one number.
 pub const NONE: u16 = 65535;

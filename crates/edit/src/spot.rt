@@ -1,10 +1,14 @@
 // Where a track's key is.
-ghost use Rattle.std.specs.Prelude.{◌≡◌, ◌<◌};
+ghost use Rattle.std.specs.Prelude.{◌≡◌, ◌<◌, eqb};
 ghost use Rattle.sheet.specs.Sizes.{target_count};
-ghost use Rattle.sheet.specs.Checked.{Checked};
+ghost use Rattle.curve.specs.Kind.{number, kind_of};
 ghost use Rattle.edit.specs.Edit.{has_key, spot_of, key_in};
 
-// Where a track's key is: its curve, its place among all keys, its number in the track, and whether a key of the track comes next.
+use curve::Kind;
+use sheet::Sheet;
+
+// Where a track's key is: its curve, by the number in the sheet's row, which the definitions go by; its place among all keys, its number in the track, and
+// whether a key of the track comes next.
 #[derive(Clone, Copy)]
 pub struct Spot {
     pub curve: usize,
@@ -13,11 +17,28 @@ pub struct Spot {
     pub more: bool,
 }
 
-pub fn spot_of(s: &[u8], track: usize, key: u16) -> Spot
-    requires { Checked s.now × (track < target_count s.now) }
-    ensures { result ≡ spot_of s.now track key }
+impl Spot {
+    // Any number past the last is read as Hermite, which no checked sheet has.
+    pub fn kind(self) -> Kind
+        ensures { result ≡ kind_of self.curve }
+    {
+        Kind::of(self.curve)
+    }
+
+    // Whether the track's curve is of this kind.
+    pub fn is(self, kind: Kind) -> bool
+        ensures { result ≡ eqb self.curve (number kind) }
+    {
+        self.curve == kind as usize
+    }
+}
+
+#[tactic(auto, using(sheet::specs::Checked::target_keys), unfolding(crate::specs::Edit::spot_of, crate::specs::Edit::place))]
+pub fn spot_of(sheet: &Sheet, track: usize, key: u16) -> Spot
+    requires { track < target_count sheet.now.bytes.now }
+    ensures { result ≡ spot_of sheet.now.bytes.now track key }
 {
-    let row = sheet::target_row(s, track);
+    let row = sheet.target(track);
     let k = key as usize;
     Spot {
         curve: row.curve,
@@ -28,27 +49,22 @@ pub fn spot_of(s: &[u8], track: usize, key: u16) -> Spot
 }
 
 // Whether the sheet has the track, and the track the key.
-pub fn has_key(s: &[u8], track: u16, key: u16) -> bool
-    requires { Checked s.now }
-    ensures { result ≡ has_key s.now track key }
+#[tactic(auto, unfolding(crate::specs::Edit::has_key))]
+pub fn has_key(sheet: &Sheet, track: u16, key: u16) -> bool
+    ensures { result ≡ has_key sheet.now.bytes.now track key }
 {
     let t = track as usize;
-    if t < sheet::target_count(s) {
-        let row = sheet::target_row(s, t);
-        return (key as usize) < row.count;
-    }
-    false
+    t < sheet.target_count() && (key as usize) < sheet.target(t).count
 }
 
 // Whether the track is the animation's, and has the key.
-pub fn key_in(s: &[u8], animation: u16, track: u16, key: u16) -> bool
-    requires { Checked s.now }
-    ensures { result ≡ key_in s.now animation track key }
+#[tactic(auto, using(crate::specs::Put::has_key_lem, sheet::specs::Checked::target_content_lem), unfolding(crate::specs::Edit::key_in))]
+pub fn key_in(sheet: &Sheet, animation: u16, track: u16, key: u16) -> bool
+    ensures { result ≡ key_in sheet.now.bytes.now animation track key }
 {
-    if !has_key(s, track, key) {
+    if !has_key(sheet, track, key) {
         return false;
     }
-    let row = sheet::target_row(s, track as usize);
-    let content = sheet::content_row(s, row.content);
-    content.animation == (animation as usize)
+    let row = sheet.target(track as usize);
+    sheet.content(row.content).animation == animation as usize
 }

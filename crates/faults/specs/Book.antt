@@ -1,6 +1,6 @@
 -- The rules of a book's layout (document 01, "Sheet and book") as a list of tests, in the order of the definition `book_ok`. Definitions, and the law that all of
 -- them hold exactly where the book keeps its layout.
-use Rattle.std.specs.Prelude.{ℕ, ◌+◌, ◌*◌, ◌<◌, ◌≤◌, List, [], ◌∷◌, ◌++◌, true, ◌&&◌, ◌||◌, ◌≡◌, refl, length, leb, ltb, eqb}
+use Rattle.std.specs.Prelude.{ℕ, ◌+◌, ◌*◌, ◌<◌, ◌≤◌, List, [], ◌∷◌, ◌++◌, true, ◌&&◌, ◌||◌, ◌≡◌, refl, length, leb, ltb, eqb, Ok}
 use Rattle.std.proofs.Common.{sym, ◌∙◌, arith, le-leb}
 use Rattle.std.proofs.lemmas.Bool.{lt-leb}
 use Rattle.laws.specs.Below.{all_same}
@@ -12,6 +12,7 @@ use Rattle.book.specs.Checked.{Sized, sized}
 use Rattle.faults.specs.declared.fault.Fault.{Fault}
 use Rattle.faults.specs.Rules.{book_short, panes_range, materials_range, book_length, pane_parent, pane_flags, horizontal_origin, vertical_origin, pane_zero, pane_finite, material_finite, label_empty, label_twice, name_empty, name_twice}
 use Rattle.faults.specs.Tests.{Test, fault, ask, fault_of, all_hold, numbered, each_below, or_else, Tells, and_assoc, and_unit, hold_join, hold_each, number_join, number_each, held_join, failed_join, zero_held, other_failed, fault_join, tells}
+use Rattle.faults.specs.Verdict.{verdict, told, told_is, accepts}
 use Rattle.faults.specs.Names.{float_test, name_tests, float_numbered, name_numbered, floats_hold, names_hold}
 
 -- how long a book of these sizes is: document 01's 4 + 72P + 156M
@@ -127,7 +128,16 @@ book_holds b =
     )
     (simp and_assoc)
 
--- ---- the answer, part by part, as the code finds it
+-- ---- the answer, as the code finds it
+
+pub book_told : (b : List ℕ) {r : Fault} → r ≡ told (verdict (book_tests b)) → Tells (book_ok b) (book_tests b) r
+book_told b e = tells (book_tests b) (book_numbered b) (book_holds b) (e ∙ told_is (book_tests b))
+
+-- where the head breaks no rule, the sizes are in their ranges
+pub head_sized : (b : List ℕ) → verdict (head_tests b) ≡ Ok tt → Sized b
+head_sized b e = sized b (sym (head_holds b) ∙ accepts (head_tests b) e)
+
+-- ---- the answer, part by part
 
 pub parts_told : (b : List ℕ) → fault_of (part_tests b) ≡
     or_else (fault_of (each_below (pane_count b) (pane_tests b)))

@@ -1,13 +1,13 @@
 -- The key rules of a sheet's own keys (document 01, "Sheet and book") as a list of tests: first that every key's numbers are finite, track by track, then the
 -- curves' rules, track by track. Definitions, and the law that all of them hold exactly where the key rules do, of a checked sheet.
 use Prim.Native.Nat.{ℕ, zero, suc, ◌+◌, ◌-◌, ◌*◌, ◌<◌}
-use Rattle.std.specs.Prelude.{List, [], ◌∷◌, ◌++◌, Bool, true, false, cond, ◌&&◌, ◌≡◌, eqb}
+use Rattle.std.specs.Prelude.{List, [], ◌∷◌, ◌++◌, Bool, true, false, cond, ◌&&◌, ◌≡◌, eqb, Ok}
 use Rattle.std.proofs.Math.Path.{refl, sym}
 use Rattle.std.proofs.Common.{◌∙◌, arith}
-use borrow.Author.Tests.{eqb-true}
+use borrow.Author.Tests.{eqb-true, ne_eqb}
 use Rattle.std.specs.Float.Ieee.{le}
 use Rattle.laws.specs.Tests.{and_2}
-use Rattle.laws.specs.Below.{all_below, all_same}
+use Rattle.laws.specs.Below.{all_below, all_none, all_suc, all_same}
 use Rattle.laws.specs.Blocks.{block_at, all_block}
 use Rattle.laws.specs.Sum.{sum_below}
 use Rattle.float.specs.Numbers.{zero', same_bits}
@@ -22,6 +22,8 @@ use Rattle.keys.specs.Rules.{finite_key, key_rule, key_ok, track_ok, key_rules, 
 use Rattle.keys.specs.Stored.{stored_frames, stored_values, stored_slopes, finite_stored, key_stored, Stored}
 use Rattle.faults.specs.declared.fault.Fault.{Fault}
 use Rattle.faults.specs.Rules.{frame_finite, value_finite, slope_finite, constant_frame, constant_slope, step_slope, step_value, frame_order}
+use Rattle.curve.specs.Kind.{number, kind_of}
+use Rattle.faults.specs.Verdict.{verdict, told, told_is, accepts}
 use Rattle.faults.specs.Tests.{Test, ask_key, fault_of, all_hold, numbered, each_below, Tells, and_assoc, and_unit, hold_join, hold_each, number_join, number_each, held_join, failed_join, zero_held, other_failed, tells}
 
 -- where frame, value and slope of the sheet's key k are
@@ -126,9 +128,9 @@ keys_numbered s = number_join (each_below (target_count s) (finite_track s)) _ (
 
 -- what holds of every number below a sum holds of each block that the sum is made of
 sum_blocks : (n : ℕ) (f : ℕ → ℕ) (p : ℕ → Bool) → all_below n (λ t. block_at (f t) p (sum_below t f)) ≡ all_below (sum_below n f) p
-unfolding all_below sum_below
-sum_blocks zero f p = refl
-sum_blocks (suc n) f p = rw (sum_blocks n f p) (sym (all_block (sum_below n f) (f n) p))
+unfolding sum_below
+sum_blocks zero f p = all_none (λ t. block_at (f t) p (sum_below t f)) ∙ sym (all_none p)
+sum_blocks (suc n) f p = rw (all_suc n (λ t. block_at (f t) p (sum_below t f)), sum_blocks n f p) (sym (all_block (sum_below n f) (f n) p))
 
 module _ {s : List ℕ} (w : Checked s) where
   -- all counts sum to K
@@ -176,7 +178,14 @@ module _ {s : List ℕ} (w : Checked s) where
   unfolding keys_tests key_rules
   keys_hold = rw (hold_join, finite_all, hold_each _ (curve_track s), all_same (target_count s) _ _ curve_track_lem)
 
-  -- ---- the answer, as the code finds it
+  -- where none of the numbers is told, they can be read
+  pub keys_finite : verdict (each_below (target_count s) (finite_track s)) ≡ Ok tt → Stored s
+  keys_finite e = record { checked = w; numbers = sym finite_all ∙ accepts (each_below (target_count s) (finite_track s)) e }
+
+  pub keys_told : {r : Fault} → r ≡ told (verdict (keys_tests s)) → Tells (key_rules s (stored_frames s) (stored_values s) (stored_slopes s)) (keys_tests s) r
+  keys_told e = tells (keys_tests s) (keys_numbered s) keys_hold (e ∙ told_is (keys_tests s))
+
+  -- ---- the answer, track by track
 
   keys_tells : {r : Fault} → r ≡ fault_of (keys_tests s) → Tells (key_rules s (stored_frames s) (stored_values s) (stored_slopes s)) (keys_tests s) r
   keys_tells e = tells (keys_tests s) (keys_numbered s) keys_hold e
@@ -188,10 +197,17 @@ module _ {s : List ℕ} (w : Checked s) where
     keys_infinite n = keys_tells (e ∙ sym (failed_join (each_below (target_count s) (finite_track s)) _ (other_failed (each_below (target_count s) (finite_track s)) e n)))
 
     -- all are, so they can be read
-    pub keys_finite : f.rule ≡ 0 → Stored s
-    keys_finite z = record { checked = w; numbers = sym finite_all ∙ zero_held _ (finite_all_numbered s) e z }
+    pub keys_stored : f.rule ≡ 0 → Stored s
+    keys_stored z = record { checked = w; numbers = sym finite_all ∙ zero_held _ (finite_all_numbered s) e z }
 
     -- and the curves' rules decide
     pub keys_curves : {r : Fault} → f.rule ≡ 0 → r ≡ fault_of (each_below (target_count s) (curve_track s)) → Tells (key_rules s (stored_frames s) (stored_values s) (stored_slopes s)) (keys_tests s) r
     unfolding keys_tests
     keys_curves z q = keys_tells (q ∙ sym (held_join (each_below (target_count s) (finite_track s)) _ (zero_held _ (finite_all_numbered s) e z)))
+
+-- a curve's rules by its kind are those by the kind's number
+pub curve_asks_kind : (s : List ℕ) (n t i k last : ℕ) → curve_asks s (number (kind_of n)) t i k last ≡ curve_asks s n t i k last
+unfolding curve_asks
+curve_asks_kind s zero t i k last = refl
+curve_asks_kind s (suc zero) t i k last = refl
+curve_asks_kind s (suc (suc n)) t i k last = rw (ne_eqb (suc (suc n)) 0 (λ e. omega arith), ne_eqb (suc (suc n)) 1 (λ e. omega arith))

@@ -1,6 +1,6 @@
 -- The rules of a sheet's layout (document 01, "Sheet and book") as a list of tests, in the order of the definition `sheet_ok`. Definitions, and the law that
 -- all of them hold exactly where the sheet keeps its layout.
-use Rattle.std.specs.Prelude.{ℕ, ◌+◌, ◌-◌, ◌*◌, ◌<◌, ◌≤◌, List, [], ◌∷◌, ◌++◌, Bool, true, false, ◌&&◌, ◌||◌, ◌≡◌, refl, length, leb, ltb, eqb}
+use Rattle.std.specs.Prelude.{ℕ, ◌+◌, ◌-◌, ◌*◌, ◌<◌, ◌≤◌, List, [], ◌∷◌, ◌++◌, Bool, true, false, ◌&&◌, ◌||◌, ◌≡◌, refl, length, leb, ltb, eqb, Ok, Err}
 use Rattle.std.proofs.Common.{sym, ◌∙◌, le-leb, eq-eqb, ne_eqb}
 use Rattle.std.proofs.lemmas.Bool.{lt-leb}
 use Rattle.laws.specs.Below.{all_below, all_of, all_same}
@@ -9,7 +9,9 @@ use Rattle.field.specs.Read.{byte_at, u16_at}
 use Rattle.field.specs.Name.{name_bytes, zero_byte, empty_name}
 use Rattle.sheet.specs.Sizes.{animation_count, content_count, target_count, key_count, texture_count, head_bytes, animation_bytes, content_bytes, target_bytes, row_name, animations_at, contents_at, targets_at, sheet_bytes}
 use Rattle.sheet.specs.Sheet.{sizes_ok, length_ok, animation_ok, content_ok, keys_of, target_from, target_ok, targets_ok, sheet_ok}
+use Rattle.sheet.specs.Checked.{Checked, checked}
 use Rattle.faults.specs.declared.fault.Fault.{Fault}
+use Rattle.faults.specs.Verdict.{verdict, told, told_is, accepts, first_tells, each_tells}
 use Rattle.faults.specs.Rules.{sheet_short, animations_range, contents_range, targets_range, keys_range, textures_range, head_zero, sheet_length, looping, next_present, next_absent, content_type, content_zero, content_animation, content_order, target_curve, target_zero, target_content, target_order, first_key, count_sum}
 use Rattle.faults.specs.Tests.{Test, fault, ask, fault_of, all_hold, numbered, each_below, or_else, Tells, and_assoc, and_unit, hold_join, hold_each, number_join, number_each, held_join, failed_join, zero_held, other_failed, fault_join, tells}
 
@@ -171,7 +173,23 @@ sheet_holds s =
     )
     (simp and_assoc)
 
--- ---- the answer, part by part, as the code finds it
+-- ---- the answer, as the code finds it
+
+pub sheet_told : (s : List ℕ) {r : Fault} → r ≡ told (verdict (sheet_tests s)) → Tells (sheet_ok s) (sheet_tests s) r
+sheet_told s e = tells (sheet_tests s) (sheet_numbered s) (sheet_holds s) (e ∙ told_is (sheet_tests s))
+
+-- where no rule of the layout is broken, s is a sheet
+pub sheet_kept : (s : List ℕ) → verdict (sheet_tests s) ≡ Ok tt → Checked s
+sheet_kept s e = checked s (sym (sheet_holds s) ∙ accepts (sheet_tests s) e)
+
+-- the first target that breaks a rule is told
+pub target_told : (s : List ℕ) (base c n k i sum : ℕ) (f : Fault) → i < n → verdict (each_below i (target_tests s base c)) ≡ Ok tt → sum ≡ sum_below i (keys_of s base)
+    → verdict (target_after s base c i sum) ≡ Err f → verdict (targets_tests s base c n k) ≡ Err f
+unfolding targets_tests
+target_told s base c n k i sum f l h e q =
+    first_tells (each_below n (target_tests s base c)) (count_test s base n k) f (each_tells i n (target_tests s base c) f l h (unfold target_tests in rw e at q))
+
+-- ---- the answer, part by part
 
 pub rows_told : (s : List ℕ) → fault_of (row_tests s) ≡
     or_else (fault_of (each_below (animation_count s) (animation_tests s)))

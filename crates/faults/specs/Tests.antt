@@ -3,7 +3,7 @@
 use Rattle.std.specs.Prelude.{ℕ, zero, suc, Bool, true, false, cond, ◌&&◌, ◌≡◌, refl, List, [], ◌∷◌, ◌++◌, eqb, ltb}
 use Rattle.std.proofs.Common.{sym, ap, ◌∙◌, arith, eq-eqb, ne_eqb, ltb-true}
 use Rattle.laws.specs.Tests.{both, and_true}
-use Rattle.laws.specs.Below.{all_below}
+use Rattle.laws.specs.Below.{all_below, all_none, all_suc}
 use Rattle.faults.specs.declared.fault.Fault.{Fault}
 
 -- a broken rule: its number, the row of its part, the key in the row's track, the byte offset, what is there, and the number that it was held against
@@ -94,9 +94,9 @@ hold_join [] ys = refl
 hold_join (t ∷ xs) ys = rw (hold_join xs ys) (sym (and_assoc t.holds (all_hold xs) (all_hold ys)))
 
 pub hold_each : (n : ℕ) (g : ℕ → List Test) → all_hold (each_below n g) ≡ all_below n (λ i. all_hold (g i))
-unfolding each_below all_below all_hold
-hold_each zero g = refl
-hold_each (suc n) g = hold_join (each_below n g) (g n) ∙ rw (hold_each n g)
+unfolding each_below all_hold
+hold_each zero g = sym (all_none (λ i. all_hold (g i)))
+hold_each (suc n) g = hold_join (each_below n g) (g n) ∙ rw (hold_each n g) (sym (all_suc n (λ i. all_hold (g i))))
 
 pub number_join : (xs ys : List Test) → numbered xs ≡ true → numbered ys ≡ true → numbered (xs ++ ys) ≡ true
 unfolding numbered

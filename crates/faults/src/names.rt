@@ -1,71 +1,81 @@
 // The first broken rule of floats in a row, and of the names of a table's rows: for panes and for materials, with the numbers of the rules as parameters.
 ghost use Rattle.std.specs.Prelude.{◌≡◌, ◌+◌, ◌*◌, ◌<◌, ◌≤◌, length};
-ghost use Rattle.field.specs.Name.{Fields};
-ghost use Rattle.faults.specs.Tests.{fault_of, each_below};
+ghost use Rattle.faults.specs.Tests.{each_below};
+ghost use Rattle.faults.specs.Verdict.{verdict};
 ghost use Rattle.faults.specs.Names.{float_test, twice_test, name_tests};
 
-use crate::fault::{Fault, asked, asked_float, sound};
-use crate::rules::NONE;
-use field::byte_at;
+use crate::fault::{Fault, ask};
+use field::{Names, byte_at};
+
+// The k-th f32 of those from `at` on.
+#[tactic(auto, unfolding(crate::specs::Verdict::verdict, crate::specs::Names::float_test, field::specs::Read::finite_in))]
+fn float_fault(b: &[u8], rule: u8, i: usize, at: usize, k: usize) -> Result<(), Fault>
+    requires { at + k * 4 + 3 < length b.now }
+    ensures { result ≡ verdict (float_test b.now rule i at k) }
+{
+    let place = at + k * 4;
+    ask(
+        field::finite_at(b, place),
+        Fault::of_float(b, rule, i, 0, place, 0),
+    )
+}
 
 // The n f32s from `at` on.
-pub fn floats_fault(b: &[u8], rule: u8, i: usize, at: usize, n: usize) -> Fault
-    requires { (at + n * 4 ≤ length b.now) × (0 < rule) }
-    ensures { result ≡ fault_of (each_below n (float_test b.now rule i at)) }
+#[tactic(auto, using(crate::specs::Verdict::each_none, crate::specs::Verdict::each_more, crate::specs::Verdict::each_tells))]
+pub fn floats_fault(b: &[u8], rule: u8, i: usize, at: usize, n: usize) -> Result<(), Fault>
+    requires { at + n * 4 ≤ length b.now }
+    ensures { result ≡ verdict (each_below n (float_test b.now rule i at)) }
 {
-    let mut k = 0;
-    while k < n {
-        let place = at + k * 4;
-        let f = asked_float(b, field::finite_at(b, place), rule, i, 0, place, 0, sound());
-        if f.rule != NONE {
-            return f;
-        }
-        k += 1;
+    for k in 0..n {
+        float_fault(b, rule, i, at, k)?;
     }
-    sound()
+    Ok(())
+}
+
+// Whether row j has row i's name.
+#[tactic(auto, unfolding(crate::specs::Verdict::verdict, crate::specs::Names::twice_test, field::specs::Name::other_name))]
+fn same_fault(names: &Names<'_>, rule: u8, i: usize, j: usize) -> Result<(), Fault>
+    requires first { i < names.now.rows }
+    requires second { j < names.now.rows }
+    ensures { result ≡ verdict (twice_test names.now.table.now rule names.now.base names.now.stride i j) }
+{
+    let at = names.place(i);
+    let same = field::same_name(names.table, names.place(j), names.table, at);
+    ask(!same, Fault::of(rule, i, at, byte_at(names.table, at), j))
 }
 
 // Whether an earlier row has row i's name.
-fn twice_fault(b: &[u8], rule: u8, base: usize, stride: usize, i: usize) -> Fault
-    requires { Fields b.now base stride (i + 1) × (0 < rule) }
-    ensures { result ≡ fault_of (each_below i (twice_test b.now rule base stride i)) }
+#[tactic(auto, using(crate::specs::Verdict::each_none, crate::specs::Verdict::each_more, crate::specs::Verdict::each_tells))]
+fn twice_fault(names: &Names<'_>, rule: u8, i: usize) -> Result<(), Fault>
+    requires { i < names.now.rows }
+    ensures { result ≡ verdict (each_below i (twice_test names.now.table.now rule names.now.base names.now.stride i)) }
 {
-    let at = base + i * stride;
-    let there = byte_at(b, at);
-    let mut j = 0;
-    while j < i {
-        let same = field::same_name(b, base + j * stride, b, at);
-        let f = asked(!same, rule, i, at, there, j, sound());
-        if f.rule != NONE {
-            return f;
-        }
-        j += 1;
+    for j in 0..i {
+        same_fault(names, rule, i, j)?;
     }
-    sound()
+    Ok(())
 }
 
-fn name_fault(b: &[u8], empty: u8, twice: u8, base: usize, stride: usize, i: usize) -> Fault
-    requires { Fields b.now base stride (i + 1) × (0 < twice) }
-    ensures { result ≡ fault_of (name_tests b.now empty twice base stride i) }
+#[tactic(auto, unfolding(crate::specs::Verdict::verdict, crate::specs::Names::name_tests))]
+fn name_fault(names: &Names<'_>, empty: u8, twice: u8, i: usize) -> Result<(), Fault>
+    requires { i < names.now.rows }
+    ensures { result ≡ verdict (name_tests names.now.table.now empty twice names.now.base names.now.stride i) }
 {
-    let at = base + i * stride;
-    let there = byte_at(b, at);
-    let ok = !field::empty_name(b, at);
-    let f = twice_fault(b, twice, base, stride, i);
-    asked(ok, empty, i, at, there, 0, f)
+    let at = names.place(i);
+    let there = byte_at(names.table, at);
+    ask(
+        !field::empty_name(names.table, at),
+        Fault::of(empty, i, at, there, 0),
+    )?;
+    twice_fault(names, twice, i)
 }
 
-pub fn names_fault(b: &[u8], empty: u8, twice: u8, base: usize, stride: usize, n: usize) -> Fault
-    requires { Fields b.now base stride n × ((0 < empty) × (0 < twice)) }
-    ensures { result ≡ fault_of (each_below n (name_tests b.now empty twice base stride)) }
+#[tactic(auto, using(crate::specs::Verdict::each_none, crate::specs::Verdict::each_more, crate::specs::Verdict::each_tells))]
+pub fn names_fault(names: Names<'_>, empty: u8, twice: u8) -> Result<(), Fault>
+    ensures { result ≡ verdict (each_below names.entry.rows (name_tests names.entry.table.now empty twice names.entry.base names.entry.stride)) }
 {
-    let mut i = 0;
-    while i < n {
-        let f = name_fault(b, empty, twice, base, stride, i);
-        if f.rule != NONE {
-            return f;
-        }
-        i += 1;
+    for i in 0..names.rows {
+        name_fault(&names, empty, twice, i)?;
     }
-    sound()
+    Ok(())
 }

@@ -6,7 +6,7 @@ use Rattle.std.proofs.lemmas.Bool.{eqb-false, not-true}
 use Rattle.laws.specs.Tests.{both}
 use Rattle.laws.specs.Below.{all_at, all_of}
 use Rattle.laws.specs.First.{first_below, first_found}
-use Rattle.laws.specs.declared.Found.TheVariants.{At, Nothing}
+use Rattle.std.specs.Prelude.{Some, None}
 use Rattle.field.specs.Read.{byte_at}
 use Rattle.field.specs.Name.{name_bytes, same_byte, same_name, row_named, find_name, names_ok}
 use Rattle.field.specs.Table.{distinct}
@@ -66,7 +66,7 @@ module _ {s : List ℕ} {base stride i : ℕ} {index : List ℕ} where
 
 -- ---- searching by it
 
-first_nothing : (n : ℕ) (p : ℕ → Bool) → ((i : ℕ) → i < n → p i ≡ false) → first_below n p ≡ Nothing
+first_nothing : (n : ℕ) (p : ℕ → Bool) → ((i : ℕ) → i < n → p i ≡ false) → first_below n p ≡ None
 unfolding first_below
 first_nothing zero p h = refl
 first_nothing (suc n) p h = rw (first_nothing n p (λ i l. h i (omega arith)), h n (omega arith))
@@ -80,7 +80,7 @@ same_chain s i k t j p q =
 
 module _ (s : List ℕ) (base stride rows : ℕ) (t : List ℕ) (j : ℕ) where
   -- no row has the name where the index has 0
-  pub unindexed : {index : List ℕ} → Indexed s base stride rows index → slice_index index (bucket_of t j) ≡ 0 → Nothing ≡ find_name s base stride rows t j
+  pub unindexed : {index : List ℕ} → Indexed s base stride rows index → slice_index index (bucket_of t j) ≡ 0 → None ≡ find_name s base stride rows t j
   unfolding find_name row_named row_bucket
   unindexed w z = sym (first_nothing rows (row_named s base stride t j) (λ i l. go i l (same_name s (base + i * stride) t j) refl))
     where
@@ -89,7 +89,7 @@ module _ (s : List ℕ) (base stride rows : ℕ) (t : List ℕ) (j : ℕ) where
       go i l true q = absurd (w.each i l (rw (bucket_same s (base + i * stride) t j q) z))
 
   -- a row that has it is the first, since names are distinct
-  pub first_named : (i : ℕ) → names_ok s base stride rows ≡ true → i < rows → same_name s (base + i * stride) t j ≡ true → At i ≡ find_name s base stride rows t j
+  pub first_named : (i : ℕ) → names_ok s base stride rows ≡ true → i < rows → same_name s (base + i * stride) t j ≡ true → Some i ≡ find_name s base stride rows t j
   unfolding find_name row_named
   first_named i h l e = sym (first_found i rows (row_named s base stride t j) (first_nothing i (row_named s base stride t j) (λ k m. go k m (same_name s (base + k * stride) t j) refl)) l e)
     where

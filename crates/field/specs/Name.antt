@@ -2,7 +2,7 @@
 use Rattle.std.specs.Prelude.{ℕ, ◌+◌, ◌*◌, ◌<◌, ◌≤◌, Bool, not, ◌&&◌, List, length, take, drop, ◌==◌}
 use Rattle.laws.specs.Below.{all_below}
 use Rattle.laws.specs.First.{first_below}
-use Rattle.laws.specs.declared.Found.{Found}
+use Rattle.std.specs.Prelude.{Option}
 use Rattle.field.specs.Read.{byte_at}
 
 -- how many bytes a name has
@@ -34,7 +34,7 @@ unfoldable pub row_named : List ℕ → ℕ → ℕ → List ℕ → ℕ → ℕ
 row_named s base stride t j i = same_name s (base + i * stride) t j
 
 -- the first of its rows that has that name
-unfoldable pub find_name : List ℕ → ℕ → ℕ → ℕ → List ℕ → ℕ → Found
+unfoldable pub find_name : List ℕ → ℕ → ℕ → ℕ → List ℕ → ℕ → Option ℕ
 find_name s base stride rows t j = first_below rows (row_named s base stride t j)
 
 -- row j has another name than row i

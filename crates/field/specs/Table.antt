@@ -5,16 +5,16 @@ use borrow.Author.Tests.{eq-eqb, ne_eqb, eqb-true, eqb-false, ltb-true, ltb-fals
 use Rattle.laws.specs.Tests.{both}
 use Rattle.laws.specs.Below.{all_at, all_same}
 use Rattle.laws.specs.First.{first_within, first_holds}
-use Rattle.laws.specs.declared.Found.TheVariants.{At}
+use Rattle.std.specs.Prelude.{Some}
 use Rattle.field.specs.Read.{byte_at}
 use Rattle.field.specs.Name.{name_bytes, same_byte, same_name, empty_name, other_name, name_ok, names_ok, row_named, find_name}
 
 -- what is found is one of the rows, and has the name
-pub found_within : (s : List ℕ) (base stride rows : ℕ) (t : List ℕ) (j i : ℕ) → find_name s base stride rows t j ≡ At i → i < rows
+pub found_within : (s : List ℕ) (base stride rows : ℕ) (t : List ℕ) (j i : ℕ) → find_name s base stride rows t j ≡ Some i → i < rows
 unfolding find_name
 found_within s base stride rows t j i e = first_within rows (row_named s base stride t j) i e
 
-pub found_named : (s : List ℕ) (base stride rows : ℕ) (t : List ℕ) (j i : ℕ) → find_name s base stride rows t j ≡ At i → same_name s (base + i * stride) t j ≡ true
+pub found_named : (s : List ℕ) (base stride rows : ℕ) (t : List ℕ) (j i : ℕ) → find_name s base stride rows t j ≡ Some i → same_name s (base + i * stride) t j ≡ true
 unfolding find_name row_named
 found_named s base stride rows t j i e = first_holds rows (row_named s base stride t j) i e
 

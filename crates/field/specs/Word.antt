@@ -9,6 +9,10 @@ use Rattle.laws.specs.Below.{all_below, all_at, all_of, Passed}
 use Rattle.field.specs.Read.{byte_at, u16_at, u32_at}
 use Rattle.field.specs.Name.{name_bytes, same_byte, same_name, zero_byte, empty_name}
 
+and_true : (b : Bool) → (b && true) ≡ b
+and_true true = refl
+and_true false = refl
+
 -- the eight bytes at i
 unfoldable pub word_at : List ℕ → ℕ → ℕ
 word_at s i = u32_at s i + u32_at s (i + 4) * 4294967296
@@ -60,12 +64,12 @@ module _ (s t : List ℕ) (b : Bytes s) (d : Bytes t) where
   -- so two fields are one name when their three words are
   pub same_words : (i j : ℕ) → same_name s i t j ≡ (word_at s i == word_at t j && (word_at s (i + 8) == word_at t (j + 8) && word_at s (i + 16) == word_at t (j + 16)))
   unfolding same_name same_byte all_below
-  same_words i j = simp (same_64, same_32, same_16, and_assoc, add_assoc, add-zero)
+  same_words i j = simp (same_64, same_32, same_16, and_assoc, and_true, add_assoc, add-zero)
 
   -- eight bytes are the same when their words are
   word_bytes : (i j : ℕ) → (word_at s i == word_at t j) ≡ all_below 8 (same_byte s i t j)
   unfolding same_byte all_below
-  word_bytes i j = simp (same_64, same_32, same_16, and_assoc, add_assoc, add-zero)
+  word_bytes i j = simp (same_64, same_32, same_16, and_assoc, and_true, add_assoc, add-zero)
 
   -- a search that compares the first and the last eight bytes at once: where either differ the name is another, and where the first are the same
   -- it has passed eight

@@ -2,18 +2,18 @@
 #![tactic(auto)]
 
 mod index;
+mod names;
 
 ghost use Rattle.std.specs.Prelude.{◌≡◌, ◌+◌, ◌*◌, ◌<◌, ◌≤◌, true, length, drop, ◌++◌};
 ghost use Rattle.field.specs.Read.{byte_at, u16_at, u32_at, float_at, finite_at, finite_row};
-ghost use Rattle.field.specs.Name.{name_bytes, name_at, same_name, empty_name, other_name, name_ok, names_ok, find_name, Fields};
+ghost use Rattle.field.specs.Name.{name_bytes, name_at, same_name, empty_name};
 ghost use Rattle.field.specs.Word.{word_at};
 ghost use Rattle.field.specs.Bucket.{buckets, bucket_of};
 ghost use Rattle.field.specs.Write.{put_float};
 ghost use Rattle.float.specs.Numbers.{finite};
-ghost use Rattle.laws.specs.Below.{all_below};
 
 pub use index::{blank_index, find_indexed, index_names};
-use laws::Found;
+pub use names::{Names, find_name};
 
 fn wide(x: u8) -> usize
     ensures { (result ≡ x) × (result < 256) }
@@ -30,6 +30,7 @@ pub fn byte_at(s: &[u8], at: usize) -> usize
 }
 
 // A u16, with its bound likewise.
+#[tactic(auto, unfolding(crate::specs::Read::u16_at))]
 pub fn u16_at(s: &[u8], at: usize) -> usize
     requires { at + 1 < length s.now }
     ensures { (result ≡ u16_at s.now at) × (result < 65536) }
@@ -44,6 +45,7 @@ fn wide32(x: u8) -> u32
 }
 
 // A u32, summed in its own width: so the compiler makes one load of it, and loops over u32s go several at a time.
+#[tactic(auto, using(crate::specs::Read::u32_bytes))]
 pub fn u32_at(s: &[u8], at: usize) -> u32
     requires { at + 3 < length s.now }
     ensures { result ≡ u32_at s.now at }
@@ -82,15 +84,14 @@ pub fn put_f32(out: &mut [u8], at: usize, x: f32)
 }
 
 // Whether n f32s in a row are finite. No early way out: the loop then goes several at a time.
+#[tactic(auto, using(laws::specs::Below::all_none, laws::specs::Below::all_step), unfolding(crate::specs::Read::finite_row, crate::specs::Read::finite_in))]
 pub fn finite_row(s: &[u8], at: usize, n: usize) -> bool
     requires { at + n * 4 ≤ length s.now }
     ensures { result ≡ finite_row s.now at n }
 {
     let mut ok = true;
-    let mut k = 0;
-    while k < n {
-        ok = ok & finite_at(s, at + k * 4);
-        k += 1;
+    for k in 0..n {
+        ok &= finite_at(s, at + k * 4);
     }
     ok
 }
@@ -108,6 +109,7 @@ pub fn name_at<'a>(s: &'a [u8], at: usize) -> &'a [u8]
 }
 
 // Eight bytes as one number: names are compared by words, since labels often begin alike.
+#[tactic(auto, unfolding(crate::specs::Word::word_at))]
 fn word_at(s: &[u8], at: usize) -> u64
     requires { at + 8 ≤ length s.now }
     ensures { result ≡ word_at s.now at }
@@ -127,28 +129,9 @@ pub fn same_name(s: &[u8], i: usize, t: &[u8], j: usize) -> bool
     requires { (i + name_bytes ≤ length s.now) × (j + name_bytes ≤ length t.now) }
     ensures { result ≡ same_name s.now i t.now j }
 {
-    if word_at(s, i) != word_at(t, j) {
-        return false;
-    }
-    if word_at(s, i + 8) != word_at(t, j + 8) {
-        return false;
-    }
-    word_at(s, i + 16) == word_at(t, j + 16)
-}
-
-fn fresh_name(s: &[u8], base: usize, stride: usize, i: usize) -> bool
-    requires { Fields s.now base stride (i + 1) }
-    ensures { result ≡ all_below i (other_name s.now base stride i) }
-{
-    let place = base + i * stride;
-    let mut j = 0;
-    while j < i {
-        if same_name(s, base + j * stride, s, place) {
-            return false;
-        }
-        j += 1;
-    }
-    true
+    (word_at(s, i) == word_at(t, j))
+        & (word_at(s, i + 8) == word_at(t, j + 8))
+        & (word_at(s, i + 16) == word_at(t, j + 16))
 }
 
 // How many buckets names have.
@@ -166,78 +149,6 @@ fn bucket_of(s: &[u8], at: usize) -> usize
     let sum = std::num::wrapping_add_u64(front, word_at(s, at + 16));
     let half = (sum % 4294967296 + sum / 4294967296) % 4294967296;
     (half * GOLDEN % 4294967296 / 16777216) as usize
-}
-
-// `seen` says whether an earlier row has row i's bucket: where it is 0, none has the name, and none is compared.
-fn name_ok(s: &[u8], base: usize, stride: usize, i: usize, seen: u8) -> bool
-    requires { Fields s.now base stride (i + 1) × (seen ≡ 0 → all_below i (other_name s.now base stride i) ≡ true) }
-    ensures { result ≡ name_ok s.now base stride i }
-{
-    if empty_name(s, base + i * stride) {
-        return false;
-    }
-    if seen == 0 {
-        return true;
-    }
-    fresh_name(s, base, stride, i)
-}
-
-// Whether the names of a table's rows are distinct and not empty. The buckets seen so far spare most comparisons.
-pub fn names_ok(s: &[u8], base: usize, stride: usize, rows: usize) -> bool
-    requires { Fields s.now base stride rows }
-    ensures { result ≡ names_ok s.now base stride rows }
-{
-    let mut seen = [0u8; BUCKETS];
-    let mut i = 0;
-    while i < rows {
-        let bucket = bucket_of(s, base + i * stride);
-        if name_ok(s, base, stride, i, seen[bucket]) {
-            seen[bucket] = 1;
-            i += 1;
-        } else {
-            return false;
-        }
-    }
-    true
-}
-
-// The first row of a table of names that has the name at `at` of another slice: the labelled search that stands for a HashMap.
-// `next` is counted at the head, so that a mismatch only leaves the row. Eight bytes at each end are one comparison each, which most rows fail; the
-// bytes between are compared one by one.
-pub fn find_name(
-    table: &[u8],
-    base: usize,
-    stride: usize,
-    rows: usize,
-    names: &[u8],
-    at: usize,
-) -> Found
-    requires { Fields table.now base stride rows × (at + name_bytes ≤ length names.now) }
-    ensures { result ≡ find_name table.now base stride rows names.now at }
-{
-    let mut found = Found::Nothing;
-    let mut next = 0;
-    'rows: while next < rows {
-        let i = next;
-        next += 1;
-        let place = base + i * stride;
-        if word_at(table, place) != word_at(names, at) {
-            continue 'rows;
-        }
-        if word_at(table, place + 16) != word_at(names, at + 16) {
-            continue 'rows;
-        }
-        let mut k = 8;
-        'bytes: while k < 16 {
-            if table[place + k] != names[at + k] {
-                continue 'rows;
-            }
-            k += 1;
-        }
-        found = Found::At(i);
-        break 'rows;
-    }
-    found
 }
 
 // A slice at the start of another; what stands behind it stays.

@@ -10,7 +10,7 @@ use native.Mathlib.Omega.{arith}
 use Rattle.std.specs.Float.{nan, inf, fin}
 use Rattle.std.specs.Float.Ieee.{up, down, lt, eq, le}
 use Rattle.laws.specs.Tests.{or_right}
-use Rattle.laws.specs.Below.{all_below, all_at, all_same}
+use Rattle.laws.specs.Below.{all_below, all_none, all_suc, all_at, all_same}
 use Rattle.laws.specs.Blocks.{block_at, all_block}
 use Rattle.float.specs.Numbers.{zero', same_bits}
 use Rattle.float.specs.Rising.{not_below, rising_in}
@@ -80,9 +80,12 @@ module _ (fs : List Float) (first : ℕ) where
 
   -- and, where there is one, they include that of the first frame
   begins : (n : ℕ) → 1 ≤ n → block_at n (not_above fs) first ≡ (all_below 1 (not_below fs first) && block_at n (not_below fs first) 1)
-  unfolding block_at all_below
-  begins n l = go (block_at n (not_above fs) first) refl
+  unfolding block_at
+  begins n l = rw one (go (block_at n (not_above fs) first) refl)
     where
+      one : all_below 1 (not_below fs first) ≡ not_below fs first 0
+      one = all_suc 0 (not_below fs first) ∙ rw (all_none (not_below fs first))
+
       nothing : (a : Bool) → false ≡ (a && false)
       nothing true = refl
       nothing false = refl
@@ -97,3 +100,12 @@ module _ (fs : List Float) (first : ℕ) where
   rising_block count l =
       let e : 1 + (count - 1) ≡ count = omega arith in
       begins (count - 1) (omega arith) ∙ sym (all_block 1 (count - 1) (not_below fs first)) ∙ ap (λ (n : ℕ). all_below n (not_below fs first)) e
+
+  -- no frame falls, and one where it is below itself
+  pub rising_none : (count : ℕ) → count ≡ 0 → rising_in fs first count ≡ true
+  unfolding rising_in
+  rising_none count e = rw (e, all_none (not_below fs first))
+
+  pub rising_one : (count : ℕ) → count ≡ 1 → rising_in fs first count ≡ le (get_or fs first nan) (get_or fs first nan)
+  unfolding rising_in not_below
+  rising_one count e = rw (e, all_suc 0 (not_below fs first), all_none (not_below fs first), add-zero)

@@ -3,12 +3,14 @@ use Rattle.std.specs.Prelude.{ℕ, ◌+◌, List, ◌&&◌, ◌≡◌, eqb, leng
 use Rattle.std.proofs.Math.Path.{refl}
 use Rattle.std.proofs.Common.{sym, ◌∙◌, eqb-true, ne_eqb}
 use Rattle.laws.specs.Tests.{both}
-use Rattle.laws.specs.Rows.{declines, held, hold_at, row_in}
+use Rattle.laws.specs.Rows.{declines, held, hold_at, held_at, row_in}
 use Rattle.sheet.specs.Sizes.{key_count, frames_at, points_at}
-use Rattle.sheet.specs.Checked.{checked}
+use Rattle.sheet.specs.Checked.{Checked, checked}
+use Rattle.keys.specs.Rules.{key_rules}
+use Rattle.keys.specs.Keys.{keys_ok, keys_are}
 use Rattle.keys.specs.Checked.{KeysChecked, keys_checked}
-use Rattle.keys.specs.Stored.{floats_from, stored_frames, stored_values, stored_slopes, Stored}
-use Rattle.keys.specs.Load.{arrays_ok, load_table, loaded, load_of}
+use Rattle.keys.specs.Stored.{floats_from, stored_frames, stored_values, stored_slopes, frames_long, values_long, slopes_long, Stored}
+use Rattle.keys.specs.Load.{arrays_ok, lent_rows, load_table, loaded, load_of}
 
 -- where nothing is declined, the sheet's keys can be read, the arrays are K long, and the keys keep the rules
 pub record Loadable (s : List ℕ) (f v z : ℕ) : Type 0 where
@@ -32,6 +34,15 @@ loadable s f v z e =
       slopes = eqb-true z (key_count s) c.1;
       keys = h;
     }
+
+-- where lent keys aren't declined, they are keys of the sheet
+pub lent_checked : (s : List ℕ) (fs vs ss : List Float) → declines (lent_rows s fs vs ss) ≡ 0 → KeysChecked s fs vs ss
+lent_checked s fs vs ss e = keys_checked s fs vs ss (held_at 4 (lent_rows s fs vs ss) (search row_in) tt e)
+
+-- of a checked sheet's own keys the test is the key rules themselves
+pub stored_rules : {s : List ℕ} → Checked s →
+    keys_ok s (stored_frames s) (stored_values s) (stored_slopes s) ≡ key_rules s (stored_frames s) (stored_values s) (stored_slopes s)
+stored_rules {s} w = keys_are w _ _ _ (frames_long s) (values_long s) (slopes_long s)
 
 module _ (s : List ℕ) (fs vs ss : List Float) where
   abbrev refusal : ℕ

@@ -1,162 +1,206 @@
-// The rules of a curve over its keys, in blocks of four, which compiled code tests at once. The last block ends at the last key and may overlap the
+// The rules on keys, in blocks of four, which compiled code tests at once. The last block ends at the last key and may overlap the
 // one before it, so that no key is left over: an average track has eight keys, and keys tested one by one would cost more than its blocks.
 // A key goes by its place in the lists, not by its number in the curve: so the compiler sees that the four of a block lie side by side.
-ghost use Rattle.std.specs.Prelude.{◌≡◌, ◌+◌, ◌<◌, ◌≤◌, length};
+ghost use Rattle.std.specs.Prelude.{◌≡◌, ◌+◌, ◌-◌, ◌*◌, ◌^◌, ◌≤◌, ◌<◌, ℕ, Bool, length};
 ghost use Rattle.laws.specs.Below.{all_below};
 ghost use Rattle.laws.specs.Blocks.{block_at};
+ghost use Rattle.float.specs.Cancel.{left};
 ghost use Rattle.float.specs.Rising.{rising_in};
-ghost use Rattle.keys.specs.Rules.{constant_key, step_key};
+ghost use Rattle.keys.specs.Rules.{finite_key, constant_key, step_key};
 ghost use Rattle.keys.specs.ByPlace.{constant_at, step_at, not_above};
 
-use float::{is_whole16, same_bits};
+use curve::Keys;
+use float::{all_finite, is_whole16, left_over, same_bits};
 
 // The keys of a block.
 const BLOCK: usize = 4;
 
-// ---- Constant: frame and slope are +0
-fn constant_key(frames: &[f32], slopes: &[f32], i: usize) -> bool
-    requires { (i < length frames.now) × (i < length slopes.now) }
-    ensures { result ≡ constant_at frames.now slopes.now i }
-{
-    same_bits(frames[i], 0.0) & same_bits(slopes[i], 0.0)
+// A rule on the key at a place of the lists.
+trait Rule {
+    ghost places: { Self → ℕ };
+
+    ghost holds: { Self → ℕ → Bool };
+
+    fn test(&self, i: usize) -> bool
+        requires { i < places self.now }
+        ensures { result ≡ holds self.now i };
 }
 
-fn constant_four(frames: &[f32], slopes: &[f32], i: usize) -> bool
-    requires { (i + 4 ≤ length frames.now) × (i + 4 ≤ length slopes.now) }
-    ensures { result ≡ block_at 4 (constant_at frames.now slopes.now) i }
-{
-    constant_key(frames, slopes, i)
-        & constant_key(frames, slopes, i + 1)
-        & constant_key(frames, slopes, i + 2)
-        & constant_key(frames, slopes, i + 3)
+// All three numbers are finite.
+#[derive(Clone, Copy)]
+struct Finite<'a> {
+    keys: Keys<'a>,
 }
 
-fn constant_blocks(frames: &[f32], slopes: &[f32], first: usize, count: usize) -> bool
-    requires { (4 ≤ count) × ((first + count ≤ length frames.now) × (first + count ≤ length slopes.now)) }
-    ensures { result ≡ all_below count (constant_key frames.now slopes.now first) }
+// Constant: frame and slope are +0.
+#[derive(Clone, Copy)]
+struct Constant<'a> {
+    frames: &'a [f32],
+    slopes: &'a [f32],
+    ghost long: { length slopes.now ≡ length frames.now },
+}
+
+// Step: slope +0, value whole in 0..65,535, not -0.
+#[derive(Clone, Copy)]
+struct Step<'a> {
+    values: &'a [f32],
+    slopes: &'a [f32],
+    ghost long: { length slopes.now ≡ length values.now },
+}
+
+// Step and Hermite: a frame is not above the next, so of n frames there are n - 1 tests.
+#[derive(Clone, Copy)]
+struct Rising<'a> {
+    frames: &'a [f32],
+}
+
+impl<'a> Rule for Finite<'a> {
+    ghost places = { λ r. length r.keys.frames.now };
+
+    ghost holds = { λ r. finite_key r.keys.frames.now r.keys.values.now r.keys.slopes.now };
+
+    #[tactic(auto, unfolding(crate::specs::Rules::finite_key))]
+    fn test(&self, i: usize) -> bool {
+        all_finite(
+            self.keys.frames[i],
+            self.keys.values[i],
+            self.keys.slopes[i],
+        )
+    }
+}
+
+impl<'a> Rule for Constant<'a> {
+    ghost places = { λ r. length r.frames.now };
+
+    ghost holds = { λ r. constant_at r.frames.now r.slopes.now };
+
+    fn test(&self, i: usize) -> bool {
+        same_bits(self.frames[i], 0.0) & same_bits(self.slopes[i], 0.0)
+    }
+}
+
+impl<'a> Rule for Step<'a> {
+    ghost places = { λ r. length r.values.now };
+
+    ghost holds = { λ r. step_at r.values.now r.slopes.now };
+
+    fn test(&self, i: usize) -> bool {
+        same_bits(self.slopes[i], 0.0) & is_whole16(self.values[i])
+    }
+}
+
+impl<'a> Rule for Rising<'a> {
+    ghost places = { λ r. length r.frames.now - 1 };
+
+    ghost holds = { λ r. not_above r.frames.now };
+
+    fn test(&self, i: usize) -> bool {
+        self.frames[i] <= self.frames[i + 1]
+    }
+}
+
+#[tactic(auto, using(laws::specs::Blocks::four_is))]
+fn four_pass<R: Rule>(rule: &R, i: usize) -> bool
+    requires within { i + 4 ≤ R.places rule.now }
+    requires counted { i + 4 < 2 ^ 64 }
+    ensures { result ≡ block_at 4 (R.holds rule.now) i }
 {
-    let last = first + count - BLOCK;
-    let mut ok = constant_four(frames, slopes, last);
-    let mut i = first;
-    while i < last {
-        ok = ok & constant_four(frames, slopes, i);
-        i += BLOCK;
+    rule.test(i) & rule.test(i + 1) & rule.test(i + 2) & rule.test(i + 3)
+}
+
+// Fewer than a block.
+#[tactic(auto, using(laws::specs::Below::all_none, laws::specs::Below::all_step), unfolding(laws::specs::Blocks::block_at))]
+fn few_pass<R: Rule>(rule: &R, first: usize, count: usize) -> bool
+    requires within { first + count ≤ R.places rule.now }
+    requires counted { first + count < 2 ^ 64 }
+    ensures { result ≡ block_at count (R.holds rule.now) first }
+{
+    let mut ok = true;
+    for i in 0..count {
+        ok &= rule.test(first + i);
     }
     ok
 }
 
+#[tactic(auto, using(laws::specs::Blocks::blocks_none, laws::specs::Blocks::blocks_more, laws::specs::Blocks::blocks_all))]
+fn all_pass<R: Rule>(rule: &R, first: usize, count: usize) -> bool
+    requires within { first + count ≤ R.places rule.now }
+    requires counted { first + count < 2 ^ 64 }
+    ensures { result ≡ block_at count (R.holds rule.now) first }
+{
+    if count < BLOCK {
+        return few_pass(rule, first, count);
+    }
+    let last = first + count - BLOCK;
+    let mut ok = four_pass(rule, last);
+    for block in 0..(count - 1) / BLOCK {
+        ok &= four_pass(rule, first + block * BLOCK);
+    }
+    ok
+}
+
+// +0 where the numbers of key i are finite, else a NaN.
+#[tactic(auto, unfolding(crate::specs::Rules::finite_key))]
+fn left_of(keys: &Keys<'_>, i: usize) -> f32
+    requires { i < length keys.now.frames.now }
+    ensures { result ≡ left (finite_key keys.now.frames.now keys.now.values.now keys.now.slopes.now i) }
+{
+    left_over(keys.frames[i], keys.values[i], keys.slopes[i])
+}
+
+// Four sums side by side, which compiled code adds at once; a NaN stays one in a sum, so one comparison tells of all.
+#[tactic(auto, using(crate::specs::Lanes::lanes_none, crate::specs::Lanes::lanes_all))]
+fn finite_blocks(keys: &Keys<'_>, blocks: usize) -> bool
+    requires { blocks * 4 ≤ length keys.now.frames.now }
+    ensures { result ≡ all_below (blocks * 4) (finite_key keys.now.frames.now keys.now.values.now keys.now.slopes.now) }
+{
+    let mut a = 0.0;
+    let mut b = 0.0;
+    let mut c = 0.0;
+    let mut d = 0.0;
+    for block in 0..blocks {
+        let i = block * BLOCK;
+        a += left_of(keys, i);
+        b += left_of(keys, i + 1);
+        c += left_of(keys, i + 2);
+        d += left_of(keys, i + 3);
+    }
+    (a + b) + (c + d) == 0.0
+}
+
+#[tactic(auto, using(laws::specs::Blocks::all_block))]
+pub fn finite_keys(keys: Keys<'_>) -> bool
+    ensures { result ≡ all_below (length keys.entry.frames.now) (finite_key keys.entry.frames.now keys.entry.values.now keys.entry.slopes.now) }
+{
+    let blocks = keys.len() / BLOCK;
+    finite_blocks(&keys, blocks) & few_pass(&Finite { keys }, blocks * BLOCK, keys.len() % BLOCK)
+}
+
+#[tactic(auto, using(crate::specs::ByPlace::constant_block))]
 pub fn constant_keys(frames: &[f32], slopes: &[f32], first: usize, count: usize) -> bool
-    requires { (first + count ≤ length frames.now) × (first + count ≤ length slopes.now) }
+    requires { (first + count ≤ length frames.now) × (length slopes.now ≡ length frames.now) }
     ensures { result ≡ all_below count (constant_key frames.now slopes.now first) }
 {
-    if count >= BLOCK {
-        return constant_blocks(frames, slopes, first, count);
-    }
-    let mut ok = true;
-    let mut i = 0;
-    while i < count {
-        ok = ok & constant_key(frames, slopes, first + i);
-        i += 1;
-    }
-    ok
+    all_pass(&Constant { frames, slopes }, first, count)
 }
 
-// ---- Step: slope +0, value whole in 0..65,535, not -0
-fn step_key(values: &[f32], slopes: &[f32], i: usize) -> bool
-    requires { (i < length values.now) × (i < length slopes.now) }
-    ensures { result ≡ step_at values.now slopes.now i }
-{
-    same_bits(slopes[i], 0.0) & is_whole16(values[i])
-}
-
-fn step_four(values: &[f32], slopes: &[f32], i: usize) -> bool
-    requires { (i + 4 ≤ length values.now) × (i + 4 ≤ length slopes.now) }
-    ensures { result ≡ block_at 4 (step_at values.now slopes.now) i }
-{
-    step_key(values, slopes, i)
-        & step_key(values, slopes, i + 1)
-        & step_key(values, slopes, i + 2)
-        & step_key(values, slopes, i + 3)
-}
-
-fn step_blocks(values: &[f32], slopes: &[f32], first: usize, count: usize) -> bool
-    requires { (4 ≤ count) × ((first + count ≤ length values.now) × (first + count ≤ length slopes.now)) }
-    ensures { result ≡ all_below count (step_key values.now slopes.now first) }
-{
-    let last = first + count - BLOCK;
-    let mut ok = step_four(values, slopes, last);
-    let mut i = first;
-    while i < last {
-        ok = ok & step_four(values, slopes, i);
-        i += BLOCK;
-    }
-    ok
-}
-
+#[tactic(auto, using(crate::specs::ByPlace::step_block))]
 pub fn step_keys(values: &[f32], slopes: &[f32], first: usize, count: usize) -> bool
-    requires { (first + count ≤ length values.now) × (first + count ≤ length slopes.now) }
+    requires { (first + count ≤ length values.now) × (length slopes.now ≡ length values.now) }
     ensures { result ≡ all_below count (step_key values.now slopes.now first) }
 {
-    if count >= BLOCK {
-        return step_blocks(values, slopes, first, count);
-    }
-    let mut ok = true;
-    let mut i = 0;
-    while i < count {
-        ok = ok & step_key(values, slopes, first + i);
-        i += 1;
-    }
-    ok
+    all_pass(&Step { values, slopes }, first, count)
 }
 
-// ---- Step and Hermite: frames never fall. Each is held against the next, so a block of four tests has five frames.
-fn not_above(frames: &[f32], i: usize) -> bool
-    requires { i + 1 < length frames.now }
-    ensures { result ≡ not_above frames.now i }
-{
-    frames[i] <= frames[i + 1]
-}
-
-fn rising_four(frames: &[f32], i: usize) -> bool
-    requires { i + 4 < length frames.now }
-    ensures { result ≡ block_at 4 (not_above frames.now) i }
-{
-    not_above(frames, i)
-        & not_above(frames, i + 1)
-        & not_above(frames, i + 2)
-        & not_above(frames, i + 3)
-}
-
-fn rising_blocks(frames: &[f32], first: usize, count: usize) -> bool
-    requires { (5 ≤ count) × (first + count ≤ length frames.now) }
-    ensures { result ≡ rising_in frames.now first count }
-{
-    let last = first + (count - 1) - BLOCK;
-    let mut ok = rising_four(frames, last);
-    let mut i = first;
-    while i < last {
-        ok = ok & rising_four(frames, i);
-        i += BLOCK;
-    }
-    ok
-}
-
-// The first frame is held against itself, so that a NaN alone falls too.
+// The first frame is held against itself, so that a NaN alone falls too; where there is a next, their test says that as well.
+#[tactic(auto, using(crate::specs::ByPlace::rising_block, crate::specs::ByPlace::rising_none, crate::specs::ByPlace::rising_one))]
 pub fn rising_keys(frames: &[f32], first: usize, count: usize) -> bool
     requires { first + count ≤ length frames.now }
     ensures { result ≡ rising_in frames.now first count }
 {
-    if count > BLOCK {
-        return rising_blocks(frames, first, count);
+    match count {
+        0 => true,
+        1 => frames[first] <= frames[first],
+        _ => all_pass(&Rising { frames }, first, count - 1),
     }
-    if count == 0 {
-        return true;
-    }
-    let mut ok = frames[first] <= frames[first];
-    let mut i = 0;
-    while i + 1 < count {
-        ok = ok & not_above(frames, first + i);
-        i += 1;
-    }
-    ok
 }

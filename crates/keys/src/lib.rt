@@ -3,9 +3,11 @@
 
 mod blocks;
 mod load;
+mod ready;
 mod rules;
 mod stored;
 
-pub use load::{lent_refusal, load_keys, load_refusal};
-pub use rules::{curve_ok, key_rule, keys_ok};
-pub use stored::{frames_at, points_at};
+pub use load::{check_lent, check_load, load_keys, load_refusal};
+pub use ready::Ready;
+pub use rules::{key_rule, keys_ok};
+pub use stored::{StoredKeys, frames_at, points_at};

@@ -1,16 +1,16 @@
-// The keys that a sheet holds, checked and copied straight from its bytes, so that nothing lent changes before the check has passed.
-ghost use Rattle.std.specs.Prelude.{◌≡◌, ◌+◌, ◌-◌, ◌*◌, ◌<◌, ◌≤◌};
+// The keys that a sheet holds, checked straight from its bytes, so that nothing lent changes before the check has passed.
+ghost use Rattle.std.specs.Prelude.{◌≡◌};
 ghost use Rattle.laws.specs.Below.{all_below};
-ghost use Rattle.field.specs.Read.{float_at};
-ghost use Rattle.sheet.specs.Sizes.{key_count, target_count, frames_at, points_at};
+ghost use Rattle.sheet.specs.Sizes.{key_count, frames_at, points_at};
 ghost use Rattle.sheet.specs.Checked.{Checked};
-ghost use Rattle.keys.specs.Rules.{finite_key, curve_ok, track_ok};
+ghost use Rattle.keys.specs.Rules.{finite_key};
 ghost use Rattle.keys.specs.Keys.{keys_ok};
 ghost use Rattle.keys.specs.Stored.{stored_frames, stored_values, stored_slopes, Stored};
 
 use crate::rules::key_rule;
-use curve::Key;
+use curve::{Key, Kind};
 use field::{f32_at, finite_at};
+use sheet::Sheet;
 
 pub fn frames_at(s: &[u8]) -> usize
     requires { Checked s.now }
@@ -26,93 +26,130 @@ pub fn points_at(s: &[u8]) -> usize
     frames_at(s) + sheet::key_count(s) * 4
 }
 
+#[tactic(auto, using(laws::specs::Below::all_none, laws::specs::Below::all_step, crate::specs::Stored::finite_stored))]
 fn finite_stored(s: &[u8]) -> bool
     requires { Checked s.now }
     ensures { result ≡ all_below (key_count s.now) (finite_key (stored_frames s.now) (stored_values s.now) (stored_slopes s.now)) }
 {
-    let n = sheet::key_count(s);
     let frames = frames_at(s);
     let points = points_at(s);
     let mut ok = true;
-    let mut i = 0;
-    while i < n {
-        ok = ok
-            & (finite_at(s, frames + i * 4)
-                & finite_at(s, points + i * 8)
-                & finite_at(s, points + 4 + i * 8));
-        i += 1;
+    for i in 0..sheet::key_count(s) {
+        ok &= finite_at(s, frames + i * 4)
+            & finite_at(s, points + i * 8)
+            & finite_at(s, points + 4 + i * 8);
     }
     ok
 }
 
-fn frame_at(s: &[u8], i: usize) -> f32
-    requires { Stored s.now × (i < key_count s.now) }
-    ensures { result ≡ float_at s.now (frames_at s.now + i * 4) }
-{
-    f32_at(s, frames_at(s) + i * 4)
+// A sheet whose keys are finite, so that they can be read.
+#[derive(Clone, Copy)]
+pub struct StoredKeys<'a> {
+    pub sheet: Sheet<'a>,
+    pub ghost stored: { Stored sheet.bytes.now },
 }
 
-fn value_at(s: &[u8], i: usize) -> f32
-    requires { Stored s.now × (i < key_count s.now) }
-    ensures { result ≡ float_at s.now (points_at s.now + i * 8) }
-{
-    f32_at(s, points_at(s) + i * 8)
-}
+impl<'a> StoredKeys<'a> {
+    ghost use Rattle.std.specs.Prelude.{◌≡◌, ◌+◌, ◌-◌, ◌*◌, ◌<◌, ◌≤◌, IfSome, is_some};
+    ghost use Rattle.laws.specs.Below.{all_below};
+    ghost use Rattle.field.specs.Read.{float_at};
+    ghost use Rattle.sheet.specs.Sizes.{key_count, target_count, frames_at, points_at};
+    ghost use Rattle.curve.specs.Kind.{number};
+    ghost use Rattle.keys.specs.Rules.{finite_key, key_ok, track_ok};
+    ghost use Rattle.keys.specs.Stored.{stored_frames, stored_values, stored_slopes};
 
-fn slope_at(s: &[u8], i: usize) -> f32
-    requires { Stored s.now × (i < key_count s.now) }
-    ensures { result ≡ float_at s.now (points_at s.now + 4 + i * 8) }
-{
-    f32_at(s, points_at(s) + 4 + i * 8)
-}
-
-// `last` is the key before i, which for the first is the first.
-fn curve_stored(s: &[u8], curve: usize, first: usize, count: usize) -> bool
-    requires { Stored s.now × (first + count ≤ key_count s.now) }
-    ensures { result ≡ curve_ok curve (stored_frames s.now) (stored_values s.now) (stored_slopes s.now) first count }
-{
-    let mut last = first;
-    let mut i = 0;
-    while i < count {
-        let k = first + i;
-        let key = Key {
-            frame: frame_at(s, k),
-            value: value_at(s, k),
-            slope: slope_at(s, k),
-        };
-        if !key_rule(curve, frame_at(s, last), key) {
-            return false;
-        }
-        last = k;
-        i += 1;
-    }
-    true
-}
-
-fn tracks_stored(s: &[u8]) -> bool
-    requires { Stored s.now }
-    ensures { result ≡ all_below (target_count s.now) (track_ok s.now (stored_frames s.now) (stored_values s.now) (stored_slopes s.now)) }
-{
-    let n = sheet::target_count(s);
-    let mut t = 0;
-    while t < n {
-        let target = sheet::target_row(s, t);
-        if curve_stored(s, target.curve, target.first, target.count) {
-            t += 1;
+    fn new(sheet: Sheet<'a>) -> Option<StoredKeys<'a>>
+        ensures finite { is_some result ≡ all_below (key_count sheet.entry.bytes.now) (finite_key (stored_frames sheet.entry.bytes.now) (stored_values sheet.entry.bytes.now) (stored_slopes sheet.entry.bytes.now)) }
+        ensures same { IfSome result (λ k. k.sheet.bytes.now ≡ sheet.entry.bytes.now) }
+    {
+        if finite_stored(sheet.bytes) {
+            Some(StoredKeys { sheet })
         } else {
-            return false;
+            None
         }
     }
-    true
+
+    #[tactic(auto, using(crate::specs::Stored::stored_frame))]
+    pub fn frame(&self, i: usize) -> f32
+        requires { i < key_count self.now.sheet.bytes.now }
+        ensures { result ≡ float_at self.now.sheet.bytes.now (frames_at self.now.sheet.bytes.now + i * 4) }
+    {
+        f32_at(self.sheet.bytes, frames_at(self.sheet.bytes) + i * 4)
+    }
+
+    #[tactic(auto, using(crate::specs::Stored::stored_value))]
+    pub fn value(&self, i: usize) -> f32
+        requires { i < key_count self.now.sheet.bytes.now }
+        ensures { result ≡ float_at self.now.sheet.bytes.now (points_at self.now.sheet.bytes.now + i * 8) }
+    {
+        f32_at(self.sheet.bytes, points_at(self.sheet.bytes) + i * 8)
+    }
+
+    #[tactic(auto, using(crate::specs::Stored::stored_slope))]
+    pub fn slope(&self, i: usize) -> f32
+        requires { i < key_count self.now.sheet.bytes.now }
+        ensures { result ≡ float_at self.now.sheet.bytes.now (points_at self.now.sheet.bytes.now + 4 + i * 8) }
+    {
+        f32_at(self.sheet.bytes, points_at(self.sheet.bytes) + 4 + i * 8)
+    }
+
+    // Key i of a curve whose keys start at `first`. `last` is the key before it, which for the first is the first: carried, since finding it anew for each
+    // key costs more than the rest of its reading.
+    #[tactic(auto, using(crate::specs::Stored::key_stored))]
+    fn key_ok(&self, kind: Kind, first: usize, i: usize, last: usize) -> bool
+        requires key { first + i < key_count self.now.sheet.bytes.now }
+        requires before { last ≡ first + (i - 1) }
+        ensures { result ≡ key_ok (number kind) (stored_frames self.now.sheet.bytes.now) (stored_values self.now.sheet.bytes.now) (stored_slopes self.now.sheet.bytes.now) first i }
+    {
+        let at = first + i;
+        let key = Key {
+            frame: self.frame(at),
+            value: self.value(at),
+            slope: self.slope(at),
+        };
+        key_rule(kind, self.frame(last), key)
+    }
+
+    // The `count` keys from `first` on are a curve's.
+    #[tactic(auto, using(laws::specs::Below::passed_none, laws::specs::Below::passed_more, laws::specs::Below::passed_not, laws::specs::Below::passed_all))]
+    fn keys_ok(&self, kind: Kind, first: usize, count: usize) -> bool
+        requires { first + count ≤ key_count self.now.sheet.bytes.now }
+        ensures { result ≡ all_below count (key_ok (number kind) (stored_frames self.now.sheet.bytes.now) (stored_values self.now.sheet.bytes.now) (stored_slopes self.now.sheet.bytes.now) first) }
+    {
+        let mut last = first;
+        for i in 0..count {
+            if !self.key_ok(kind, first, i, last) {
+                return false;
+            }
+            last = first + i;
+        }
+        true
+    }
+
+    #[tactic(auto, using(sheet::specs::Checked::target_keys, crate::specs::Kinds::track_by_key))]
+    fn track_ok(&self, t: usize) -> bool
+        requires { t < target_count self.now.sheet.bytes.now }
+        ensures { result ≡ track_ok self.now.sheet.bytes.now (stored_frames self.now.sheet.bytes.now) (stored_values self.now.sheet.bytes.now) (stored_slopes self.now.sheet.bytes.now) t }
+    {
+        let target = self.sheet.target(t);
+        self.keys_ok(Kind::of(target.curve), target.first, target.count)
+    }
+
+    #[tactic(auto, unfolding(laws::specs::Below::all_below))]
+    fn tracks_ok(&self) -> bool
+        ensures { result ≡ all_below (target_count self.now.sheet.bytes.now) (track_ok self.now.sheet.bytes.now (stored_frames self.now.sheet.bytes.now) (stored_values self.now.sheet.bytes.now) (stored_slopes self.now.sheet.bytes.now)) }
+    {
+        (0..self.sheet.target_count()).all(|t| self.track_ok(t))
+    }
 }
 
 // Whether the sheet's own keys keep the key rules. Finite first: the others read them as floats.
-pub fn stored_ok(s: &[u8]) -> bool
-    requires { Checked s.now }
-    ensures { result ≡ keys_ok s.now (stored_frames s.now) (stored_values s.now) (stored_slopes s.now) }
+#[tactic(auto, using(crate::specs::Loading::stored_rules), unfolding(crate::specs::Rules::key_rules))]
+pub fn stored_ok(sheet: Sheet<'_>) -> bool
+    ensures { result ≡ keys_ok sheet.entry.bytes.now (stored_frames sheet.entry.bytes.now) (stored_values sheet.entry.bytes.now) (stored_slopes sheet.entry.bytes.now) }
 {
-    if !finite_stored(s) {
-        return false;
+    match StoredKeys::new(sheet) {
+        Some(keys) => keys.tracks_ok(),
+        None => false,
     }
-    tracks_stored(s)
 }

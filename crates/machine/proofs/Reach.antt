@@ -10,7 +10,7 @@ use lib.Dec.{T, eqb}
 use lib.ListN.{length, length-append}
 use lib.Ieee.{Float, binary32, fits}
 use Rattle.laws.specs.Rows.{Row, declines, held_at, first_held, hold_at, row_in}
-use Rattle.laws.specs.declared.Found.TheVariants as found
+use Rattle.std.specs.Prelude.{Some, None}
 use Rattle.sheet.specs.Sizes.{target_count}
 use Rattle.sheet.specs.Rows.{target_row}
 use Rattle.sheet.specs.Checked.{Checked}
@@ -24,8 +24,7 @@ use Rattle.channel.specs.Channel.{target_channel}
 use Rattle.reading.specs.Reading.{last_target}
 use Rattle.reading.proofs.LastTarget.{last_target_only}
 use Rattle.reading.specs.Untouched.{untouched_reads}
-use Rattle.reading.specs.declared.Active.{Active}
-use Rattle.reading.specs.declared.Active.TheVariants as active
+use Rattle.reading.specs.Active.{Active, active_at}
 use Rattle.edit.specs.Keys.{Keys, key_at, put_key, get_other, HeldKeys, keys_ok_of}
 use Rattle.edit.specs.Edit.{has_key, place, edited, unchanged, edit_rows, request_rows, spot_of}
 use Rattle.edit.specs.Put.{has_key_lem}
@@ -112,7 +111,7 @@ module _ (s : List ℕ) (u : ℕ) (l : u < target_count s) where
       either true ks = itself s ks u
       either false ks = itself s ks u
 
-      moves : (b : Bool) → unchanged s t.keys track key r ≡ b → b ≡ false → u ≡ track → cond (unchanged s t.keys track key r) found.Nothing (found.At track) ≡ found.At u
+      moves : (b : Bool) → unchanged s t.keys track key r ≡ b → b ≡ false → u ≡ track → cond (unchanged s t.keys track key r) None (Some track) ≡ Some u
       moves b q f e = rw (q, f, e)
 
       go : (b : Bool) → unchanged s t.keys track key r ≡ b → SameTrack s t.keys (cond (eqb (declines (edit_table s t.player t.keys track key r)) 0) (cond b t.keys (put_key t.keys (place s track key) (edited s t.keys track key r))) t.keys) u
@@ -146,12 +145,12 @@ module _ (s : List ℕ) (u : ℕ) (l : u < target_count s) where
   call_spares (pose a x) t d = itself s t.keys u
   call_spares (tick dt fps) t d = itself s t.keys u
   call_spares (edit track key r) t d = edit_spares track key r t d
-  call_spares undo t d = take_spares Undo t.player t.keys (λ z e. unfold take_of in d z (ap found.At (sym e)))
-  call_spares redo t d = take_spares Redo t.player t.keys (λ z e. unfold take_of in d z (ap found.At (sym e)))
+  call_spares undo t d = take_spares Undo t.player t.keys (λ z e. unfold take_of in d z (ap Some (sym e)))
+  call_spares redo t d = take_spares Redo t.player t.keys (λ z e. unfold take_of in d z (ap Some (sym e)))
   call_spares (open_drag track key) t d = itself s t.keys u
-  call_spares (drag x v) t d = drag_spares x v t.player t.keys (λ z e. unfold drag_of in d z (ap found.At (sym e)))
+  call_spares (drag x v) t d = drag_spares x v t.player t.keys (λ z e. unfold drag_of in d z (ap Some (sym e)))
   call_spares drop_drag t d = itself s t.keys u
-  call_spares abandon_drag t d = abandon_spares t.player t.keys (λ z e. unfold abandon_of in d z (ap found.At (sym e)))
+  call_spares abandon_drag t d = abandon_spares t.player t.keys (λ z e. unfold abandon_of in d z (ap Some (sym e)))
   call_spares (ask b q) t d = itself s t.keys u
   call_spares (save o) t d = itself s t.keys u
 
@@ -164,11 +163,11 @@ module _ (s : List ℕ) (u : ℕ) (l : u < target_count s) where
 
 -- One call that moves a key of track u, from any state: at every animation and frame nothing but the channel that u addresses can read differently.
 -- (reach/specs/OneTrack says what that is, and when nothing does.)
-module _ (s : List ℕ) (c : Call) (t : State) (u : ℕ) (about : track_of s c t ≡ found.At u) where
+module _ (s : List ℕ) (c : Call) (t : State) (u : ℕ) (about : track_of s c t ≡ Some u) where
   pub call_others : (v : ℕ) → v < target_count s → (v ≡ u → ⊥) → SameTrack s t.keys (step_p s c t).0.keys v
   call_others v l d = call_spares s v l c t (λ z e. d (same (sym about ∙ e)))
     where
-      same : found.At u ≡ found.At v → v ≡ u
+      same : Some u ≡ Some v → v ≡ u
       same e = cc
 
   pub call_reaches : {b : List ℕ} → CheckedBook b → (a : ℕ) (x : Float) → Reaches s b t.keys (step_p s c t).0.keys a x (target_channel s b a u)
@@ -176,10 +175,10 @@ module _ (s : List ℕ) (c : Call) (t : State) (u : ℕ) (about : track_of s c t
 
 -- Over a list of calls, from any state: a channel reads the same afterwards, at the same animation and frame, where no call moved a key of the track that
 -- decides it, if there is one.
-pub list_reaches : (s b : List ℕ) (cs : List Call) (t : State) (a : ℕ) (x : Float) (c : ℕ) → ((u : ℕ) → last_target s b a c ≡ found.At u → SparesAll s u cs t)
-    → SameReading s b t.keys (last (step_p s) cs t).keys (active.At a x) c
+pub list_reaches : (s b : List ℕ) (cs : List Call) (t : State) (a : ℕ) (x : Float) (c : ℕ) → ((u : ℕ) → last_target s b a c ≡ Some u → SparesAll s u cs t)
+    → SameReading s b t.keys (last (step_p s) cs t).keys (active_at a x) c
 list_reaches s b cs t a x c h =
-    untouched_reads s b t.keys.frames t.keys.values t.keys.slopes (last (step_p s) cs t).keys.frames (last (step_p s) cs t).keys.values (last (step_p s) cs t).keys.slopes (active.At a x) c
+    untouched_reads s b t.keys.frames t.keys.values t.keys.slopes (last (step_p s) cs t).keys.frames (last (step_p s) cs t).keys.values (last (step_p s) cs t).keys.slopes (active_at a x) c
     (λ u e. list_spares s u (last_target_only s b a c u e).within cs t (h u e))
 
 -- ---- between two points of a list, from loading on: with the standing-edit statement (`standing_edits_decide`)
@@ -199,13 +198,13 @@ same_by s b a c p q h = rw (← p, ← q) h
 -- request); a channel reads the same over both where no call of ds moved a key of the track that decides it.
 pub between : (s b : List ℕ) (arrays : Keys) → (loaded_of s arrays).refusal ≡ 0 → (cs ds : List Call) → Each HeldCall (cs ++ ds) → length (cs ++ ds) ≤ 2 ^ 40
     → (a : ℕ) (x : Float) (c : ℕ)
-    → ((u : ℕ) → last_target s b a c ≡ found.At u → SparesAll s u ds (last (step_p s) cs (record { player = (loaded_of s arrays).player; keys = (loaded_of s arrays).keys })))
-    → SameReading s b (keys_of s (last (step_m s) cs (fresh_m (loaded_of s arrays).keys))) (keys_of s (last (step_m s) (cs ++ ds) (fresh_m (loaded_of s arrays).keys))) (active.At a x) c
+    → ((u : ℕ) → last_target s b a c ≡ Some u → SparesAll s u ds (last (step_p s) cs (record { player = (loaded_of s arrays).player; keys = (loaded_of s arrays).keys })))
+    → SameReading s b (keys_of s (last (step_m s) cs (fresh_m (loaded_of s arrays).keys))) (keys_of s (last (step_m s) (cs ++ ds) (fresh_m (loaded_of s arrays).keys))) (active_at a x) c
 between s b arrays e cs ds held h a x c spared =
     let t : State = record { player = (loaded_of s arrays).player; keys = (loaded_of s arrays).keys } in
     let k = standing_edits_decide s arrays e cs (each_first HeldCall cs ds held) (omega (arith, length-append cs ds)) in
     let l = standing_edits_decide s arrays e (cs ++ ds) held h in
-    same_by s b (active.At a x) c k.0.keys (sym (ap (λ (q : State). q.keys) (last_append (step_p s) cs ds t)) ∙ l.0.keys) (list_reaches s b ds (last (step_p s) cs t) a x c spared)
+    same_by s b (active_at a x) c k.0.keys (sym (ap (λ (q : State). q.keys) (last_append (step_p s) cs ds t)) ∙ l.0.keys) (list_reaches s b ds (last (step_p s) cs t) a x c spared)
 
 -- ---- in time: one key in another's place, as an edit, a drag, an undo, a redo and an abandonment put it, within the key rules before and after
 
@@ -225,7 +224,7 @@ module _ {s : List ℕ} (w : Checked s) (ks : Keys) (track key : ℕ) (k : Key) 
 
   -- strictly outside the span from the previous key's frame to the next key's, every channel reads the same
   pub put_outside : (x : Float) → T (fits binary32 x) → ((target_row s track).curve ≡ kind_constant → ⊥) → outside (part_of (target_row s track).first (target_row s track).count ks.frames) key key x ≡ true
-      → (b : List ℕ) (a c : ℕ) → SameReading s b ks (put_key ks (place s track key) k) (active.At a x) c
+      → (b : List ℕ) (a c : ℕ) → SameReading s b ks (put_key ks (place s track key) k) (active_at a x) c
   put_outside x hx d e =
       let q = has_key_lem s track key has in
       then_all compared hk hl track q.0 key key (omega arith) q.1 other_keys (put_others w ks track key k has) x
@@ -234,7 +233,7 @@ module _ {s : List ℕ} (w : Checked s) (ks : Keys) (track key : ℕ) (k : Key) 
   -- and on a Constant curve wherever the frame picks another key
   pub put_picked : (x : Float) → (target_row s track).curve ≡ kind_constant
       → (key ≤ picked (part_of (target_row s track).first (target_row s track).count ks.frames) x → picked (part_of (target_row s track).first (target_row s track).count ks.frames) x ≤ key → ⊥)
-      → (b : List ℕ) (a c : ℕ) → SameReading s b ks (put_key ks (place s track key) k) (active.At a x) c
+      → (b : List ℕ) (a c : ℕ) → SameReading s b ks (put_key ks (place s track key) k) (active_at a x) c
   put_picked x e d =
       let q = has_key_lem s track key has in
       then_all compared hk hl track q.0 key key (omega arith) q.1 other_keys (put_others w ks track key k has) x
@@ -244,6 +243,6 @@ module _ {s : List ℕ} (w : Checked s) (ks : Keys) (track key : ℕ) (k : Key) 
 pub edit_outside : {s : List ℕ} (w : Checked s) (ks : Keys) → keys_ok_of s ks ≡ true → HeldKeys ks → (track key : ℕ) → has_key s track key ≡ true
     → (r : Request) → HeldRequest r → declines (request_rows ks.frames (spot_of s track key) r) ≡ 0
     → (x : Float) → T (fits binary32 x) → ((target_row s track).curve ≡ kind_constant → ⊥) → outside (part_of (target_row s track).first (target_row s track).count ks.frames) key key x ≡ true
-    → (b : List ℕ) (a c : ℕ) → SameReading s b ks (put_key ks (place s track key) (edited s ks track key r)) (active.At a x) c
+    → (b : List ℕ) (a c : ℕ) → SameReading s b ks (put_key ks (place s track key) (edited s ks track key r)) (active_at a x) c
 edit_outside {s} w ks ok hk track key has r hr e =
     put_outside w ks track key (edited s ks track key r) has ok (edit_keeps w ks ok hk.frames track key has r hr e) hk (edit_held s ks track key r hk hr e)

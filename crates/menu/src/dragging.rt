@@ -1,38 +1,47 @@
 // A drag of one key: opened, dragged, and then dropped or abandoned. Play, pose, tick, readings and saving go on meanwhile.
-ghost use Rattle.std.specs.Prelude.{◌≡◌};
+ghost use Rattle.std.specs.Prelude.{◌≡◌, IfOk, OnOk};
+ghost use Rattle.laws.specs.Refusal.{declined};
 ghost use Rattle.laws.specs.Rows.{declines};
-ghost use Rattle.sheet.specs.Checked.{Checked};
-ghost use Rattle.edit.specs.Keys.{keys};
-ghost use Rattle.edit.specs.Edit.{track_rows};
-ghost use Rattle.player.specs.Drag.{open_rows};
-ghost use Rattle.player.specs.Dragged.{Draggable};
-ghost use Rattle.menu_checks.specs.Rows.{behind};
-ghost use Rattle.menu.specs.Rows.{drag_rows};
-ghost use Rattle.menu.specs.Calls.{gave, gave_edit, open_of, drag_of, drop_of, abandon_of};
-ghost use Rattle.menu.specs.Steps.{Placed, moves_same, moved_keys, abandoned_drag, abandoned_keys};
+ghost use Rattle.edit.specs.Keys.{Within, keys, key_at};
+ghost use Rattle.edit.specs.Edit.{place};
+ghost use Rattle.player.specs.Counts.{CanEdit};
+ghost use Rattle.menu.specs.Rows.{open_table, drag_table, close_table};
+ghost use Rattle.menu.specs.Calls.{entry_for, gave, gave_edit, open_of, drag_of, drop_of, abandon_of};
 
-use crate::editing::{Edited, entry_for, put_entry};
+use crate::change::{Change, requested};
+use crate::editing::Edited;
 use crate::playing::Played;
+use curve::Key;
 use edit::put::{put_key, same_key};
-use edit::request::{Request, request_refusal, track_refusal};
-use edit::spot::spot_of;
-use laws::refusal::{ACCEPTED, DRAG_STATE};
-use menu_checks::{check_keys, check_state};
+use edit::request::{Request, check_track};
+use edit::track_key::TrackKey;
+use laws::refusal::ACCEPTED;
+use laws::{Refusal, ask};
+use menu_checks::check_state;
 use player::Player;
 use player::drag::Drag;
 
-// Rows 6, 15 and 7, behind n.
-fn open_refusal(n: u8, s: &[u8], selection: u16, dragging: bool, track: u16, key: u16) -> u8
-    requires { n ≡ 0 → Checked s.now }
-    ensures { result ≡ behind n (declines (track_rows s.now selection dragging track key)) }
+// The key as it is now.
+#[tactic(auto, using(laws::specs::Refused::refused, edit::specs::Accepted::tracked_key), unfolding(crate::specs::Rows::open_table, edit::specs::Edit::track_rows, edit::specs::Edit::spot_of, laws::specs::Rows::declines, laws::specs::Rows::unless))]
+fn check_open(
+    p: &Player,
+    s: &[u8],
+    frames: &[f32],
+    values: &[f32],
+    slopes: &[f32],
+    track: u16,
+    key: u16,
+) -> Result<Key, Refusal>
+    ensures declined { declined result ≡ declines (open_table s.now p.now (keys frames.now values.now slopes.now) track key) }
+    ensures key { IfOk result (λ k. k ≡ key_at (keys frames.now values.now slopes.now) (place s.now track key)) }
 {
-    if n != ACCEPTED {
-        return n;
-    }
-    track_refusal(s, selection, dragging, track, key)
+    let ready = check_state(p, s, frames, values, slopes)?;
+    check_track(&ready.sheet, p.selection, p.drag.open, track, key)?;
+    Ok(TrackKey::of(&ready, track, key).key())
 }
 
 // Opens a drag of a key of the active animation. Refusals 1, 3 to 6, 15, 7.
+#[tactic(auto, using(laws::specs::Refused::refused), unfolding(crate::specs::Calls::open_of))]
 pub fn open_drag(
     p: Player,
     s: &[u8],
@@ -44,71 +53,40 @@ pub fn open_drag(
 ) -> Played
     ensures { result ≡ open_of s.now p (keys frames.now values.now slopes.now) track key }
 {
-    let first = check_keys(s, frames, values, slopes);
-    let n = check_state(first, p, s, frames, values, slopes);
-    let m = open_refusal(n, s, p.selection, p.drag.open, track, key);
-    if m != ACCEPTED {
-        return Played {
-            refusal: m,
+    match check_open(&p, s, frames, values, slopes, track, key) {
+        Ok(now) => Played {
+            refusal: ACCEPTED,
+            player: p.with_drag(Drag::opened(track, key, now)),
+        },
+        Err(e) => Played {
+            refusal: e.number(),
             player: p,
-        };
-    }
-    let spot = spot_of(s, track as usize, key);
-    let now = curve::key_at(frames, values, slopes, spot.at);
-    Played {
-        refusal: ACCEPTED,
-        player: p.with_drag(Drag::opened(track, key, now)),
+        },
     }
 }
 
-// Rows 15, 8 and 9, behind n.
-fn drag_refusal(
-    n: u8,
-    d: Drag,
+#[tactic(auto, using(laws::specs::Refused::refused, crate::proofs::Sounds::open_key), unfolding(crate::specs::Rows::drag_table, crate::specs::Rows::drag_rows, laws::specs::Rows::declines, laws::specs::Rows::unless))]
+fn check_drag(
+    p: &Player,
     s: &[u8],
     frames: &[f32],
     values: &[f32],
     slopes: &[f32],
     frame: f32,
     value: f32,
-) -> u8
-    requires { n ≡ 0 → Draggable s.now (keys frames.now values.now slopes.now) d }
-    ensures { result ≡ behind n (declines (drag_rows s.now (keys frames.now values.now slopes.now) d frame value)) }
+) -> Result<Change, Refusal>
+    ensures declined { declined result ≡ declines (drag_table s.now p.now (keys frames.now values.now slopes.now) frame value) }
+    ensures at { IfOk result (λ c. c.at ≡ place s.now p.now.drag.track p.now.drag.key) }
+    ensures entry { IfOk result (λ c. c.entry ≡ entry_for s.now (keys frames.now values.now slopes.now) p.now.drag.track p.now.drag.key (Request.Key frame value)) }
+    ensures within { IfOk result (λ c. Within (keys frames.now values.now slopes.now) c.at) }
 {
-    if n != ACCEPTED {
-        return n;
-    }
-    if !d.open {
-        return DRAG_STATE;
-    }
-    let spot = spot_of(s, d.track as usize, d.key);
-    request_refusal(frames, spot, Request::Key(frame, value))
-}
-
-// The open key is put where it is asked for, where n declines nothing; whether it has the same bits as before.
-fn move_key(
-    n: u8,
-    s: &[u8],
-    frames: &mut [f32],
-    values: &mut [f32],
-    slopes: &mut [f32],
-    track: u16,
-    key: u16,
-    r: Request,
-) -> bool
-    requires { n ≡ 0 → Placed s.now (keys frames.old values.old slopes.old) track key }
-    ensures same { result ≡ moves_same n s.now (keys frames.old values.old slopes.old) track key r }
-    ensures keys { keys frames.new values.new slopes.new ≡ moved_keys n s.now (keys frames.old values.old slopes.old) track key r }
-{
-    if n != ACCEPTED {
-        return false;
-    }
-    let e = entry_for(s, frames, values, slopes, track, key, r);
-    put_entry(s, frames, values, slopes, e);
-    same_key(e.after, e.before)
+    let ready = check_state(p, s, frames, values, slopes)?;
+    ask(p.drag.open, Refusal::DragState)?;
+    requested(&ready, p.drag.track, p.drag.key, Request::Key(frame, value))
 }
 
 // Moves the open key to a frame and a value, whatever animation is active. Refusals 1, 3 to 5, 15, 8, 9.
+#[tactic(auto, using(laws::specs::Refused::refused), unfolding(crate::specs::Calls::drag_of, crate::specs::Calls::entry_for, edit::specs::Edit::unchanged, edit::specs::Keys::put_key))]
 pub fn drag(
     p: Player,
     s: &[u8],
@@ -120,78 +98,78 @@ pub fn drag(
 ) -> Edited
     ensures { gave_edit result (keys frames.new values.new slopes.new) ≡ drag_of s.now p (keys frames.old values.old slopes.old) frame value }
 {
-    let d = p.drag;
-    let first = check_keys(s, frames, values, slopes);
-    let n = check_state(first, p, s, frames, values, slopes);
-    let m = drag_refusal(n, d, s, frames, values, slopes, frame, value);
-    let r = Request::Key(frame, value);
-    let unchanged = move_key(m, s, frames, values, slopes, d.track, d.key, r);
-    let moved = (m == ACCEPTED) | d.moved;
-    Edited {
-        refusal: m,
-        unchanged,
-        player: p.with_drag(Drag { moved, ..d }),
+    match check_drag(&p, s, frames, values, slopes, frame, value) {
+        Ok(c) => {
+            put_key(frames, values, slopes, c.at, c.entry.after);
+            Edited {
+                refusal: ACCEPTED,
+                unchanged: same_key(c.entry.after, c.entry.before),
+                player: p.with_drag(Drag {
+                    moved: true,
+                    ..p.drag
+                }),
+            }
+        }
+        Err(e) => Edited {
+            refusal: e.number(),
+            unchanged: false,
+            player: p,
+        },
     }
 }
 
-// Row 15, behind n.
-fn close_refusal(n: u8, dragging: bool) -> u8
-    ensures { result ≡ behind n (declines (open_rows dragging)) }
+// What is held: the place of the open key, and the key as it is now.
+#[derive(Clone, Copy)]
+struct Held {
+    at: usize,
+    now: Key,
+}
+
+// What a drop and an abandonment ask.
+#[tactic(auto, using(laws::specs::Refused::refused, crate::proofs::Sounds::open_key, crate::proofs::Sounds::can_edit, crate::proofs::Sounds::within), unfolding(crate::specs::Rows::close_table, edit::specs::Edit::spot_of, laws::specs::Rows::declines, laws::specs::Rows::unless))]
+fn check_close(
+    p: &Player,
+    s: &[u8],
+    frames: &[f32],
+    values: &[f32],
+    slopes: &[f32],
+) -> Result<Held, Refusal>
+    ensures declined { declined result ≡ declines (close_table s.now p.now (keys frames.now values.now slopes.now)) }
+    ensures at { IfOk result (λ h. h.at ≡ place s.now p.now.drag.track p.now.drag.key) }
+    ensures now { IfOk result (λ h. h.now ≡ key_at (keys frames.now values.now slopes.now) h.at) }
+    ensures within { IfOk result (λ h. Within (keys frames.now values.now slopes.now) h.at) }
+    ensures counts { OnOk result (CanEdit p.now) }
 {
-    if n != ACCEPTED {
-        return n;
-    }
-    if !dragging {
-        return DRAG_STATE;
-    }
-    ACCEPTED
+    let ready = check_state(p, s, frames, values, slopes)?;
+    ask(p.drag.open, Refusal::DragState)?;
+    let held = TrackKey::of(&ready, p.drag.track, p.drag.key);
+    Ok(Held {
+        at: held.spot.at,
+        now: held.key(),
+    })
 }
 
 // Leaves the key where it is, as one edit if a drag was accepted and the key has other bits than at opening. Refusals 1, 3 to 5, 15.
+#[tactic(auto, using(laws::specs::Refused::refused), unfolding(crate::specs::Calls::drop_of))]
 pub fn drop_drag(p: Player, s: &[u8], frames: &[f32], values: &[f32], slopes: &[f32]) -> Edited
     ensures { result ≡ drop_of s.now p (keys frames.now values.now slopes.now) }
 {
-    let d = p.drag;
-    let first = check_keys(s, frames, values, slopes);
-    let n = close_refusal(check_state(first, p, s, frames, values, slopes), d.open);
-    if n != ACCEPTED {
-        return Edited {
-            refusal: n,
+    match check_close(&p, s, frames, values, slopes) {
+        Ok(held) => Edited {
+            refusal: ACCEPTED,
+            unchanged: p.drag.unchanged(held.now),
+            player: p.dropped(held.now),
+        },
+        Err(e) => Edited {
+            refusal: e.number(),
             unchanged: false,
             player: p,
-        };
+        },
     }
-    let spot = spot_of(s, d.track as usize, d.key);
-    let now = curve::key_at(frames, values, slopes, spot.at);
-    Edited {
-        refusal: ACCEPTED,
-        unchanged: d.unchanged(now),
-        player: p.dropped(now),
-    }
-}
-
-// The open key is put back as it was at opening, where n declines nothing; the drag after it.
-fn put_back(
-    n: u8,
-    d: Drag,
-    s: &[u8],
-    frames: &mut [f32],
-    values: &mut [f32],
-    slopes: &mut [f32],
-) -> Drag
-    requires { n ≡ 0 → Placed s.now (keys frames.old values.old slopes.old) d.track d.key }
-    ensures drag { result ≡ abandoned_drag n d }
-    ensures keys { keys frames.new values.new slopes.new ≡ abandoned_keys n s.now (keys frames.old values.old slopes.old) d }
-{
-    if n != ACCEPTED {
-        return d;
-    }
-    let spot = spot_of(s, d.track as usize, d.key);
-    put_key(frames, values, slopes, spot.at, d.start());
-    Drag::closed()
 }
 
 // Puts the key back as it was at opening; nothing is counted. Refusals 1, 3 to 5, 15.
+#[tactic(auto, using(laws::specs::Refused::refused), unfolding(crate::specs::Calls::abandon_of, player::specs::Drag::put_back, edit::specs::Keys::put_key))]
 pub fn abandon_drag(
     p: Player,
     s: &[u8],
@@ -201,12 +179,17 @@ pub fn abandon_drag(
 ) -> Played
     ensures { gave result (keys frames.new values.new slopes.new) ≡ abandon_of s.now p (keys frames.old values.old slopes.old) }
 {
-    let d = p.drag;
-    let first = check_keys(s, frames, values, slopes);
-    let n = close_refusal(check_state(first, p, s, frames, values, slopes), d.open);
-    let next = put_back(n, d, s, frames, values, slopes);
-    Played {
-        refusal: n,
-        player: p.with_drag(next),
+    match check_close(&p, s, frames, values, slopes) {
+        Ok(held) => {
+            put_key(frames, values, slopes, held.at, p.drag.start());
+            Played {
+                refusal: ACCEPTED,
+                player: p.with_drag(Drag::closed()),
+            }
+        }
+        Err(e) => Played {
+            refusal: e.number(),
+            player: p,
+        },
     }
 }

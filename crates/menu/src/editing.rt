@@ -1,21 +1,20 @@
 // The edits of one key.
-ghost use Rattle.std.specs.Prelude.{◌≡◌};
+ghost use Rattle.std.specs.Prelude.{◌≡◌, IfOk, OnOk};
+ghost use Rattle.laws.specs.Refusal.{declined};
 ghost use Rattle.laws.specs.Rows.{declines};
-ghost use Rattle.edit.specs.Keys.{keys};
-ghost use Rattle.edit.specs.Edit.{edit_rows};
-ghost use Rattle.player.specs.Undo.{taken_keys};
-ghost use Rattle.menu_checks.specs.Rows.{behind};
-ghost use Rattle.menu_checks.specs.Checks.{KeysReady};
+ghost use Rattle.edit.specs.Keys.{Within, keys};
+ghost use Rattle.edit.specs.Edit.{place};
+ghost use Rattle.player.specs.Counts.{CanEdit};
+ghost use Rattle.menu.specs.Rows.{edit_table};
 ghost use Rattle.menu.specs.Calls.{gave_edit, entry_for, edit_of};
-ghost use Rattle.menu.specs.Steps.{Placed, answered, edited_to};
 
+use crate::change::{Change, requested};
 use edit::put::{put_key, same_key};
-use edit::request::{Request, request_refusal, track_refusal};
-use edit::spot::spot_of;
+use edit::request::{Request, check_track};
+use laws::Refusal;
 use laws::refusal::ACCEPTED;
-use menu_checks::{check_keys, check_state};
+use menu_checks::check_state;
 use player::Player;
-use player::journal::Entry;
 
 // What an edit, a drag and a drop answer. `unchanged`: accepted, and the key has the same bits as before the call, for a drop as at the opening; also a drop
 // with no accepted drag.
@@ -27,43 +26,9 @@ pub struct Edited {
     pub player: Player,
 }
 
-// What a request comes to, but for the player.
-#[derive(Clone, Copy)]
-enum Made {
-    Declined(u8),
-    Same,
-    Edit(Entry),
-}
-
-// Rows 6, 15, 7 and the request's, behind n.
-fn edit_refusal(
-    n: u8,
-    s: &[u8],
-    frames: &[f32],
-    values: &[f32],
-    slopes: &[f32],
-    selection: u16,
-    dragging: bool,
-    track: u16,
-    key: u16,
-    r: Request,
-) -> u8
-    requires { n ≡ 0 → KeysReady s.now (keys frames.now values.now slopes.now) }
-    ensures { result ≡ behind n (declines (edit_rows s.now selection dragging (keys frames.now values.now slopes.now) track key r)) }
-{
-    if n != ACCEPTED {
-        return n;
-    }
-    let m = track_refusal(s, selection, dragging, track, key);
-    if m != ACCEPTED {
-        return m;
-    }
-    let spot = spot_of(s, track as usize, key);
-    request_refusal(frames, spot, r)
-}
-
-// The journal's entry of a request that is granted.
-pub fn entry_for(
+#[tactic(auto, using(laws::specs::Refused::refused, edit::specs::Accepted::tracked_key, crate::proofs::Sounds::can_edit), unfolding(crate::specs::Rows::edit_table, edit::specs::Edit::edit_rows, edit::specs::Edit::track_rows, laws::specs::Rows::declines, laws::specs::Rows::unless))]
+fn check_edit(
+    p: &Player,
     s: &[u8],
     frames: &[f32],
     values: &[f32],
@@ -71,33 +36,22 @@ pub fn entry_for(
     track: u16,
     key: u16,
     r: Request,
-) -> Entry
-    requires { Placed s.now (keys frames.now values.now slopes.now) track key }
-    ensures { result ≡ entry_for s.now (keys frames.now values.now slopes.now) track key r }
+) -> Result<Change, Refusal>
+    ensures declined { declined result ≡ declines (edit_table s.now p.now (keys frames.now values.now slopes.now) track key r) }
+    ensures at { IfOk result (λ c. c.at ≡ place s.now track key) }
+    ensures entry { IfOk result (λ c. c.entry ≡ entry_for s.now (keys frames.now values.now slopes.now) track key r) }
+    ensures within { IfOk result (λ c. Within (keys frames.now values.now slopes.now) c.at) }
+    ensures counts { OnOk result (CanEdit p.now) }
 {
-    let spot = spot_of(s, track as usize, key);
-    let before = curve::key_at(frames, values, slopes, spot.at);
-    let after = edit::request::edited(frames, values, slopes, spot, r);
-    Entry {
-        track,
-        key,
-        before,
-        after,
-    }
+    let ready = check_state(p, s, frames, values, slopes)?;
+    check_track(&ready.sheet, p.selection, p.drag.open, track, key)?;
+    requested(&ready, track, key, r)
 }
 
-// The entry's key is left as the entry leaves it.
-pub fn put_entry(s: &[u8], frames: &mut [f32], values: &mut [f32], slopes: &mut [f32], e: Entry)
-    requires { Placed s.now (keys frames.old values.old slopes.old) e.track e.key }
-    ensures { keys frames.new values.new slopes.new ≡ taken_keys s.now (keys frames.old values.old slopes.old) e }
-{
-    let spot = spot_of(s, e.track as usize, e.key);
-    put_key(frames, values, slopes, spot.at, e.after);
-}
-
-// The edit of either kind, where n declines nothing: the key is made and put in its place. Where it has the same bits as before, nothing is stored.
+// An edit of either kind. Where the key has the same bits as before, nothing is stored.
+#[tactic(auto, using(laws::specs::Refused::refused), unfolding(crate::specs::Calls::edit_of, crate::specs::Calls::entry_for, edit::specs::Edit::unchanged, edit::specs::Keys::put_key))]
 fn edit(
-    n: u8,
+    p: Player,
     s: &[u8],
     frames: &mut [f32],
     values: &mut [f32],
@@ -105,19 +59,31 @@ fn edit(
     track: u16,
     key: u16,
     r: Request,
-) -> Made
-    requires { n ≡ 0 → Placed s.now (keys frames.old values.old slopes.old) track key }
-    ensures { (p : Player) → gave_edit (answered p result) (keys frames.new values.new slopes.new) ≡ edited_to n s.now p (keys frames.old values.old slopes.old) track key r }
+) -> Edited
+    ensures { gave_edit result (keys frames.new values.new slopes.new) ≡ edit_of s.now p (keys frames.old values.old slopes.old) track key r }
 {
-    if n != ACCEPTED {
-        return Made::Declined(n);
+    match check_edit(&p, s, frames, values, slopes, track, key, r) {
+        Ok(c) => {
+            if same_key(c.entry.after, c.entry.before) {
+                return Edited {
+                    refusal: ACCEPTED,
+                    unchanged: true,
+                    player: p,
+                };
+            }
+            put_key(frames, values, slopes, c.at, c.entry.after);
+            Edited {
+                refusal: ACCEPTED,
+                unchanged: false,
+                player: p.after_edit(c.entry),
+            }
+        }
+        Err(e) => Edited {
+            refusal: e.number(),
+            unchanged: false,
+            player: p,
+        },
     }
-    let e = entry_for(s, frames, values, slopes, track, key, r);
-    if same_key(e.after, e.before) {
-        return Made::Same;
-    }
-    put_entry(s, frames, values, slopes, e);
-    Made::Edit(e)
 }
 
 // Moves a key of the active animation to a frame and a value. Refusals 1, 3 to 6, 15, 7 to 9.
@@ -134,38 +100,16 @@ pub fn key_edit(
 ) -> Edited
     ensures { gave_edit result (keys frames.new values.new slopes.new) ≡ edit_of s.now p (keys frames.old values.old slopes.old) track key (Request.Key frame value) }
 {
-    let r = Request::Key(frame, value);
-    let first = check_keys(s, frames, values, slopes);
-    let n = check_state(first, p, s, frames, values, slopes);
-    let m = edit_refusal(
-        n,
+    edit(
+        p,
         s,
         frames,
         values,
         slopes,
-        p.selection,
-        p.drag.open,
         track,
         key,
-        r,
-    );
-    match edit(m, s, frames, values, slopes, track, key, r) {
-        Made::Declined(k) => Edited {
-            refusal: k,
-            unchanged: false,
-            player: p,
-        },
-        Made::Same => Edited {
-            refusal: ACCEPTED,
-            unchanged: true,
-            player: p,
-        },
-        Made::Edit(e) => Edited {
-            refusal: ACCEPTED,
-            unchanged: false,
-            player: p.after_edit(e),
-        },
-    }
+        Request::Key(frame, value),
+    )
 }
 
 // Gives a Hermite key of the active animation a slope. Refusals 1, 3 to 6, 15, 7, 8, 10.
@@ -181,36 +125,14 @@ pub fn slope_edit(
 ) -> Edited
     ensures { gave_edit result (keys frames.new values.new slopes.new) ≡ edit_of s.now p (keys frames.old values.old slopes.old) track key (Request.Slope slope) }
 {
-    let r = Request::Slope(slope);
-    let first = check_keys(s, frames, values, slopes);
-    let n = check_state(first, p, s, frames, values, slopes);
-    let m = edit_refusal(
-        n,
+    edit(
+        p,
         s,
         frames,
         values,
         slopes,
-        p.selection,
-        p.drag.open,
         track,
         key,
-        r,
-    );
-    match edit(m, s, frames, values, slopes, track, key, r) {
-        Made::Declined(k) => Edited {
-            refusal: k,
-            unchanged: false,
-            player: p,
-        },
-        Made::Same => Edited {
-            refusal: ACCEPTED,
-            unchanged: true,
-            player: p,
-        },
-        Made::Edit(e) => Edited {
-            refusal: ACCEPTED,
-            unchanged: false,
-            player: p.after_edit(e),
-        },
-    }
+        Request::Slope(slope),
+    )
 }

@@ -2,6 +2,7 @@
 // caller.
 #![tactic(auto)]
 
+mod change;
 mod dragging;
 mod editing;
 mod loading;
@@ -11,7 +12,7 @@ mod undoing;
 
 pub use dragging::{abandon_drag, drag, drop_drag, open_drag};
 pub use editing::{Edited, key_edit, slope_edit};
-pub use loading::{load, next_name};
+pub use loading::{find_next_name, load, next_name};
 pub use playing::{Played, Ticked, play, pose, tick};
 pub use saving::save;
 pub use undoing::{redo, undo};

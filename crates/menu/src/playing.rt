@@ -1,17 +1,18 @@
-// Play, pose and tick. The check is called by the outward function itself, which owns the player: so the player is copied once, into the answer.
-ghost use Rattle.std.specs.Prelude.{◌≡◌};
+// Play, pose and tick. Each looks at the player where it is, so that it is copied once, into the answer.
+ghost use Rattle.std.specs.Prelude.{◌≡◌, IfOk, OnOk};
+ghost use Rattle.laws.specs.Refusal.{declined};
 ghost use Rattle.laws.specs.Rows.{declines};
-ghost use Rattle.sheet.specs.Checked.{Checked};
-ghost use Rattle.player.specs.Parts.{view_of};
 ghost use Rattle.player.specs.Ticked.{Selected};
-ghost use Rattle.menu_checks.specs.Rows.{behind};
-ghost use Rattle.menu.specs.Rows.{play_rows, pose_rows, tick_rows};
+ghost use Rattle.menu.specs.Rows.{play_table, pose_table, tick_table};
 ghost use Rattle.menu.specs.Calls.{play_of, pose_of, tick_of};
 
 use edit::NONE;
-use laws::refusal::{ACCEPTED, BAD_ARGUMENT, NO_ANIMATION};
-use menu_checks::{check_player, check_sheet};
+use float::is_finite;
+use laws::refusal::ACCEPTED;
+use laws::{Refusal, ask};
+use menu_checks::check_player;
 use player::{Player, Tick};
+use sheet::Sheet;
 
 // A refusal, 0 for none, and the player after the call.
 #[repr(C)]
@@ -28,108 +29,91 @@ pub struct Ticked {
     pub player: Player,
 }
 
-// Row 6, behind n.
-fn play_refusal(n: u8, s: &[u8], animation: u16) -> u8
-    requires { n ≡ 0 → Checked s.now }
-    ensures { result ≡ behind n (declines (play_rows s.now animation)) }
+#[tactic(auto, using(laws::specs::Refused::refused), unfolding(crate::specs::Rows::play_table, crate::specs::Rows::play_rows, laws::specs::Rows::declines, laws::specs::Rows::unless))]
+fn check_play(p: &Player, s: &[u8], animation: u16) -> Result<(), Refusal>
+    ensures { declined result ≡ declines (play_table s.now p.now animation) }
 {
-    if n != ACCEPTED {
-        return n;
-    }
-    if !((animation == NONE) | ((animation as usize) < sheet::animation_count(s))) {
-        return NO_ANIMATION;
-    }
-    ACCEPTED
+    let sheet = check_player(p, s)?;
+    ask(
+        (animation == NONE) | ((animation as usize) < sheet.animation_count()),
+        Refusal::NoAnimation,
+    )
 }
 
 // Plays an animation from its start; play of none does nothing. Refusals 1, 5, 6.
+#[tactic(auto, using(laws::specs::Refused::refused), unfolding(crate::specs::Calls::play_of))]
 pub fn play(p: Player, s: &[u8], animation: u16) -> Played
     ensures { result ≡ play_of s.now p animation }
 {
-    let n = play_refusal(check_player(check_sheet(s), p, s), s, animation);
-    if n != ACCEPTED {
-        return Played {
-            refusal: n,
-            player: p,
-        };
-    }
-    if animation == NONE {
-        return Played {
+    match check_play(&p, s, animation) {
+        Ok(()) => Played {
             refusal: ACCEPTED,
+            player: p.play(animation),
+        },
+        Err(e) => Played {
+            refusal: e.number(),
             player: p,
-        };
-    }
-    Played {
-        refusal: ACCEPTED,
-        player: p.play(animation),
+        },
     }
 }
 
-// Row 8 of a pose, behind n.
-fn pose_refusal(n: u8, frame: f32) -> u8
-    ensures { result ≡ behind n (declines (pose_rows frame)) }
+#[tactic(auto, using(laws::specs::Refused::refused), unfolding(crate::specs::Rows::pose_table, crate::specs::Rows::pose_rows, laws::specs::Rows::declines, laws::specs::Rows::unless))]
+fn check_pose<'a>(p: &Player, s: &'a [u8], frame: f32) -> Result<Sheet<'a>, Refusal>
+    ensures declined { declined result ≡ declines (pose_table s.now p.now frame) }
+    ensures sheet { IfOk result (λ x. x.bytes.now ≡ s.now) }
 {
-    if n != ACCEPTED {
-        return n;
-    }
-    if !float::is_finite(frame) {
-        return BAD_ARGUMENT;
-    }
-    ACCEPTED
+    let sheet = check_player(p, s)?;
+    ask(is_finite(frame), Refusal::BadArgument)?;
+    Ok(sheet)
 }
 
 // Holds an animation at a frame; none, and a number that the sheet doesn't have, clear the selection. Refusals 1, 5, 8.
+#[tactic(auto, using(laws::specs::Refused::refused), unfolding(crate::specs::Calls::pose_of))]
 pub fn pose(p: Player, s: &[u8], animation: u16, frame: f32) -> Played
     ensures { result ≡ pose_of s.now p animation frame }
 {
-    let n = pose_refusal(check_player(check_sheet(s), p, s), frame);
-    if n != ACCEPTED {
-        return Played {
-            refusal: n,
+    match check_pose(&p, s, frame) {
+        Ok(sheet) => Played {
+            refusal: ACCEPTED,
+            player: p.pose(&sheet, animation, frame),
+        },
+        Err(e) => Played {
+            refusal: e.number(),
             player: p,
-        };
-    }
-    Played {
-        refusal: ACCEPTED,
-        player: p.pose(s, animation, frame),
+        },
     }
 }
 
-// Row 8 of a tick, behind n.
-fn tick_refusal(n: u8, p: Player, s: &[u8], dt: f32, fps: f32) -> u8
-    requires { n ≡ 0 → Selected s.now p }
-    ensures { result ≡ behind n (declines (tick_rows s.now (view_of p) dt fps)) }
+#[tactic(auto, using(laws::specs::Refused::refused, crate::proofs::Sounds::selected), unfolding(crate::specs::Rows::tick_table, crate::specs::Rows::tick_rows, laws::specs::Rows::declines, laws::specs::Rows::unless))]
+fn check_tick<'a>(p: &Player, s: &'a [u8], dt: f32, fps: f32) -> Result<Sheet<'a>, Refusal>
+    ensures declined { declined result ≡ declines (tick_table s.now p.now dt fps) }
+    ensures sheet { IfOk result (λ x. x.bytes.now ≡ s.now) }
+    ensures selected { OnOk result (Selected s.now p.now) }
 {
-    if n != ACCEPTED {
-        return n;
-    }
-    if !(float::is_finite(dt) & float::is_finite(fps)) {
-        return BAD_ARGUMENT;
-    }
-    if !p.tick_moves(s, dt, fps) {
-        return BAD_ARGUMENT;
-    }
-    ACCEPTED
+    let sheet = check_player(p, s)?;
+    ask(is_finite(dt) & is_finite(fps), Refusal::BadArgument)?;
+    ask(p.tick_moves(&sheet, dt, fps), Refusal::BadArgument)?;
+    Ok(sheet)
 }
 
 // Lets dt seconds pass at fps frames a second. Refusals 1, 5, 8.
+#[tactic(auto, using(laws::specs::Refused::refused), unfolding(crate::specs::Calls::tick_of))]
 pub fn tick(p: Player, s: &[u8], dt: f32, fps: f32) -> Ticked
     ensures { result ≡ tick_of s.now p dt fps }
 {
-    let n = tick_refusal(check_player(check_sheet(s), p, s), p, s, dt, fps);
-    if n != ACCEPTED {
-        return Ticked {
-            refusal: n,
+    match check_tick(&p, s, dt, fps) {
+        Ok(sheet) => {
+            let next = p.tick(&sheet, dt, fps);
+            Ticked {
+                refusal: ACCEPTED,
+                answer: next.answer,
+                player: next.player,
+            }
+        }
+        Err(e) => Ticked {
+            refusal: e.number(),
             answer: Tick::Idle,
             player: p,
-        };
-    }
-    let next = p.tick(s, dt, fps);
-    let answer = next.answer;
-    let player = next.player;
-    Ticked {
-        refusal: ACCEPTED,
-        answer,
-        player,
+        },
     }
 }

@@ -1,70 +1,76 @@
 // Undo and redo: both take an entry of the journal.
-ghost use Rattle.std.specs.Prelude.{◌≡◌};
+ghost use Rattle.std.specs.Prelude.{◌≡◌, IfOk, OnOk};
+ghost use Rattle.laws.specs.Refusal.{declined};
 ghost use Rattle.laws.specs.Rows.{declines};
-ghost use Rattle.edit.specs.Keys.{keys};
-ghost use Rattle.player.specs.Takes.{Takeable};
-ghost use Rattle.menu_checks.specs.Rows.{behind};
-ghost use Rattle.menu.specs.Calls.{gave, undo_of, redo_of};
-ghost use Rattle.menu.specs.Steps.{entry_rows, taken_behind};
+ghost use Rattle.edit.specs.Keys.{Within, keys};
+ghost use Rattle.edit.specs.Edit.{place};
+ghost use Rattle.player.specs.Undo.{entry_of};
+ghost use Rattle.player.specs.Counts.{CanTake};
+ghost use Rattle.menu.specs.Rows.{take_table};
+ghost use Rattle.menu.specs.Calls.{gave, take_of, undo_of, redo_of};
 
-use crate::editing::put_entry;
+use crate::change::Change;
 use crate::playing::Played;
-use laws::refusal::{ACCEPTED, BROKEN_STATE, DRAG_STATE, NOTHING_TO_TAKE};
-use menu_checks::{check_keys, check_state};
+use edit::put::put_key;
+use edit::track_key::TrackKey;
+use laws::refusal::ACCEPTED;
+use laws::{Refusal, ask};
+use menu_checks::check_state;
 use player::Player;
-use player::journal::Entry;
-use player::undo::{Way, take_fits};
+use player::undo::Way;
 
-// Rows 5, 15 and 11 behind n, of the first of `left` entries.
-fn take_refusal(
-    n: u8,
+#[tactic(auto, using(laws::specs::Refused::refused, player::specs::Takes::entry_sound, crate::proofs::Sounds::can_take, crate::proofs::Sounds::within), unfolding(crate::specs::Rows::take_table, player::specs::Undo::take_rows, edit::specs::Edit::spot_of, laws::specs::Rows::declines, laws::specs::Rows::unless))]
+fn check_take(
+    way: Way,
+    p: &Player,
     s: &[u8],
     frames: &[f32],
     values: &[f32],
     slopes: &[f32],
-    dragging: bool,
-    left: u64,
-    e: Entry,
-) -> u8
-    requires { n ≡ 0 → Takeable s.now (keys frames.now values.now slopes.now) left e }
-    ensures { result ≡ behind n (declines (entry_rows s.now (keys frames.now values.now slopes.now) dragging left e)) }
+) -> Result<Change, Refusal>
+    ensures declined { declined result ≡ declines (take_table way s.now p.now (keys frames.now values.now slopes.now)) }
+    ensures at { IfOk result (λ c. c.at ≡ place s.now c.entry.track c.entry.key) }
+    ensures entry { IfOk result (λ c. c.entry ≡ entry_of way p.now) }
+    ensures within { IfOk result (λ c. Within (keys frames.now values.now slopes.now) c.at) }
+    ensures counts { OnOk result (CanTake way p.now) }
 {
-    if n != ACCEPTED {
-        return n;
-    }
-    if !take_fits(s, frames, values, slopes, dragging, left, e) {
-        return BROKEN_STATE;
-    }
-    if dragging {
-        return DRAG_STATE;
-    }
-    if left == 0 {
-        return NOTHING_TO_TAKE;
-    }
-    ACCEPTED
+    let ready = check_state(p, s, frames, values, slopes)?;
+    ask(p.take_fits(&ready, way), Refusal::BrokenState)?;
+    ask(!p.drag.open, Refusal::DragState)?;
+    ask(p.entries(way) != 0, Refusal::NothingToTake)?;
+    let entry = p.entry(way);
+    let held = TrackKey::of(&ready, entry.track, entry.key);
+    Ok(Change {
+        at: held.spot.at,
+        entry,
+    })
 }
 
-// The entry is taken, where no row declines it.
+// The entry's key is left as the entry leaves it.
+#[tactic(auto, using(laws::specs::Refused::refused), unfolding(crate::specs::Calls::take_of, player::specs::Undo::taken_keys, edit::specs::Keys::put_key))]
 fn take(
-    n: u8,
+    way: Way,
+    p: Player,
     s: &[u8],
     frames: &mut [f32],
     values: &mut [f32],
     slopes: &mut [f32],
-    dragging: bool,
-    left: u64,
-    e: Entry,
-) -> u8
-    requires { n ≡ 0 → Takeable s.now (keys frames.old values.old slopes.old) left e }
-    ensures number { result ≡ behind n (declines (entry_rows s.now (keys frames.old values.old slopes.old) dragging left e)) }
-    ensures keys { keys frames.new values.new slopes.new ≡ taken_behind result s.now (keys frames.old values.old slopes.old) e }
+) -> Played
+    ensures { gave result (keys frames.new values.new slopes.new) ≡ take_of way s.now p (keys frames.old values.old slopes.old) }
 {
-    let m = take_refusal(n, s, frames, values, slopes, dragging, left, e);
-    if m != ACCEPTED {
-        return m;
+    match check_take(way, &p, s, frames, values, slopes) {
+        Ok(c) => {
+            put_key(frames, values, slopes, c.at, c.entry.after);
+            Played {
+                refusal: ACCEPTED,
+                player: p.after_take(way),
+            }
+        }
+        Err(e) => Played {
+            refusal: e.number(),
+            player: p,
+        },
     }
-    put_entry(s, frames, values, slopes, e);
-    ACCEPTED
 }
 
 // Takes the last standing edit back. Refusals 1, 3 to 5, 15, 11.
@@ -77,20 +83,7 @@ pub fn undo(
 ) -> Played
     ensures { gave result (keys frames.new values.new slopes.new) ≡ undo_of s.now p (keys frames.old values.old slopes.old) }
 {
-    let first = check_keys(s, frames, values, slopes);
-    let n = check_state(first, p, s, frames, values, slopes);
-    let e = p.entry(Way::Undo);
-    let m = take(n, s, frames, values, slopes, p.drag.open, p.reach, e);
-    if m != ACCEPTED {
-        return Played {
-            refusal: m,
-            player: p,
-        };
-    }
-    Played {
-        refusal: ACCEPTED,
-        player: p.after_take(Way::Undo),
-    }
+    take(Way::Undo, p, s, frames, values, slopes)
 }
 
 // Makes the edit that was undone last again. Refusals 1, 3 to 5, 15, 11.
@@ -103,18 +96,5 @@ pub fn redo(
 ) -> Played
     ensures { gave result (keys frames.new values.new slopes.new) ≡ redo_of s.now p (keys frames.old values.old slopes.old) }
 {
-    let first = check_keys(s, frames, values, slopes);
-    let n = check_state(first, p, s, frames, values, slopes);
-    let e = p.entry(Way::Redo);
-    let m = take(n, s, frames, values, slopes, p.drag.open, p.redo, e);
-    if m != ACCEPTED {
-        return Played {
-            refusal: m,
-            player: p,
-        };
-    }
-    Played {
-        refusal: ACCEPTED,
-        player: p.after_take(Way::Redo),
-    }
+    take(Way::Redo, p, s, frames, values, slopes)
 }

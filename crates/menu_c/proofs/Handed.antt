@@ -10,8 +10,18 @@ use lib.Seq.{take-length, drop-length}
 use Rattle.laws.specs.Rows.{Row, numbered, declines, fails, passes, no_rows, stops, held, joined}
 use Rattle.field.specs.Name.{name_bytes}
 use Rattle.menu.specs.Calls.{Written, wrote, written_by}
-use Rattle.menu.proofs.Results.{written_not, written}
 use Rattle.menu_c.specs.Naming.{name_rows}
+
+-- a call that writes bytes into an output
+module _ {n : ℕ} (rs : List Row) (bytes o : List ℕ) (e : n ≡ declines rs) where
+  -- declined: as it was
+  written_not : (n ≡ 0 → ⊥) → wrote n o ≡ written_by rs bytes o
+  unfolding written_by
+  written_not d = rw (← e, ne_eqb n 0 d)
+
+  written : {r : List ℕ} → n ≡ 0 → r ≡ bytes → wrote 0 r ≡ written_by rs bytes o
+  unfolding written_by
+  written z h = rw (← e, z, h)
 
 module _ (name o : List ℕ) where
   -- the output is not as long as a name

@@ -3,8 +3,8 @@ use Rattle.std.specs.Prelude.{ℕ, ◌+◌, ◌*◌, ◌<◌, ◌≤◌, Bool, t
 use Rattle.std.proofs.Common.{arith, ltb-true, eqb-true, length-take, length-drop}
 use Rattle.laws.specs.Rows.{declines, held, first_held}
 use Rattle.laws.specs.Tests.{both}
-use Rattle.laws.specs.declared.Found.{Found}
-use Rattle.laws.specs.declared.Found.TheVariants as found
+use Rattle.std.specs.Prelude.{Option}
+use Rattle.std.specs.Prelude.{Some, None}
 use Rattle.field.specs.Name.{name_at, name_bytes}
 use Rattle.sheet.specs.Sizes.{animation_bytes, row_name, animation_count, animations_at, textures_at}
 use Rattle.sheet.specs.Rows.{next_name, texture_name}
@@ -14,7 +14,7 @@ use Rattle.book.specs.Rows.{material_texture}
 use Rattle.book.specs.Checked.{CheckedBook, checked_book}
 use Rattle.channel.specs.Channel.{slot_channel, of_material}
 use Rattle.reading.specs.Reading.{reading}
-use Rattle.reading.specs.declared.Active.{Active}
+use Rattle.reading.specs.Active.{Active}
 use Rattle.resolve.specs.Resolve.{row_in, name_for, texture_of}
 use Rattle.resolve.specs.Textures.{named_below}
 use Rattle.player.specs.declared.Player.{Player}
@@ -44,9 +44,9 @@ texture_of_long : (s b : List ℕ) (fs vs ss : List Float) (a : Active) (m slot 
 unfolding texture_of texture_name material_texture
 texture_of_long s b fs vs ss a m slot w v h k = go (row_in (reading s b fs vs ss a (of_material b m (slot_channel slot)))) refl
   where
-    go : (f : Found) → row_in (reading s b fs vs ss a (of_material b m (slot_channel slot))) ≡ f → length (name_for s b fs vs ss a f m slot) ≡ name_bytes
-    go (found.At n) e = let l = named_below s b fs vs ss a (of_material b m (slot_channel slot)) n e in field_long s (textures_at s + n * name_bytes) (omega arith)
-    go found.Nothing e = field_long b (materials_at b + m * material_bytes + name_bytes + slot * name_bytes) (omega arith)
+    go : (f : Option ℕ) → row_in (reading s b fs vs ss a (of_material b m (slot_channel slot))) ≡ f → length (name_for s b fs vs ss a f m slot) ≡ name_bytes
+    go (Some n) e = let l = named_below s b fs vs ss a (of_material b m (slot_channel slot)) n e in field_long s (textures_at s + n * name_bytes) (omega arith)
+    go None e = field_long b (materials_at b + m * material_bytes + name_bytes + slot * name_bytes) (omega arith)
 
 pub texture_long : (s b : List ℕ) (p : Player) (ks : Keys) (m slot : ℕ) → declines (texture_name_table s b p ks m slot) ≡ 0
     → length (texture_name_of s b p ks m slot) ≡ name_bytes

@@ -1,6 +1,6 @@
 // The answers that hold an enum, as structs of numbers, which pass by value to C.
 ghost use Rattle.std.specs.Prelude.{◌≡◌};
-ghost use Rattle.menu_c.specs.Answers.{tick_number, ticked_of, kind_of, read_one_of};
+ghost use Rattle.menu_c.specs.Answers.{tick_number, kind_of};
 
 use player::{Player, Tick};
 use reading::Reading;
@@ -23,6 +23,7 @@ pub struct ReadOne {
     pub number: f32,
 }
 
+// The numbers are the C interface's, written out: the order of the variants is not.
 fn tick_number(t: Tick) -> u8
     ensures { result ≡ tick_number t }
 {
@@ -34,18 +35,22 @@ fn tick_number(t: Tick) -> u8
     }
 }
 
-pub fn flat_tick(g: menu::Ticked) -> Ticked
-    ensures { result ≡ ticked_of g }
-{
-    let answer = g.answer;
-    let player = g.player;
-    Ticked {
-        refusal: g.refusal,
-        answer: tick_number(answer),
-        player,
+impl From<menu::Ticked> for Ticked {
+    ghost use Rattle.std.specs.Prelude.{◌≡◌};
+    ghost use Rattle.menu_c.specs.Answers.{ticked_of};
+
+    ghost from_gives = { λ g t. t ≡ ticked_of g };
+
+    fn from(g: menu::Ticked) -> Ticked {
+        Ticked {
+            refusal: g.refusal,
+            answer: tick_number(g.answer),
+            player: g.player,
+        }
     }
 }
 
+// The C interface's numbers likewise.
 fn kind_of(r: Reading) -> u8
     ensures { result ≡ kind_of r }
 {
@@ -58,13 +63,17 @@ fn kind_of(r: Reading) -> u8
     }
 }
 
-pub fn flat_reading(g: menu_readings::ReadOne) -> ReadOne
-    ensures { result ≡ read_one_of g }
-{
-    let reading = g.reading;
-    ReadOne {
-        refusal: g.refusal,
-        kind: kind_of(reading),
-        number: reading::number_of(reading),
+impl From<menu_readings::ReadOne> for ReadOne {
+    ghost use Rattle.std.specs.Prelude.{◌≡◌};
+    ghost use Rattle.menu_c.specs.Answers.{read_one_of};
+
+    ghost from_gives = { λ g r. r ≡ read_one_of g };
+
+    fn from(g: menu_readings::ReadOne) -> ReadOne {
+        ReadOne {
+            refusal: g.refusal,
+            kind: kind_of(g.reading),
+            number: f32::from(g.reading),
+        }
     }
 }

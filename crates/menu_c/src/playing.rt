@@ -4,7 +4,7 @@ ghost use Rattle.edit.specs.Keys.{keys};
 ghost use Rattle.menu.specs.Calls.{gave, loaded_of, play_of, pose_of, tick_of};
 ghost use Rattle.menu_c.specs.Answers.{ticked_of};
 
-use crate::answers::{Ticked, flat_tick};
+use crate::answers::Ticked;
 use menu::Played;
 use player::Player;
 
@@ -29,5 +29,5 @@ pub fn menu_pose(player: Player, sheet: &[u8], animation: u16, frame: f32) -> Pl
 pub fn menu_tick(player: Player, sheet: &[u8], dt: f32, fps: f32) -> Ticked
     ensures { result ≡ ticked_of (tick_of sheet.now player dt fps) }
 {
-    flat_tick(menu::tick(player, sheet, dt, fps))
+    Ticked::from(menu::tick(player, sheet, dt, fps))
 }

@@ -4,7 +4,7 @@ ghost use Rattle.edit.specs.Keys.{keys};
 ghost use Rattle.menu_readings.specs.Readings.{read_pane_of, read_material_of, gave_tables, read_all_of, resolve_pane_of, resolve_srt_of, gave_cascade, cascade_of};
 ghost use Rattle.menu_c.specs.Answers.{read_one_of};
 
-use crate::answers::{ReadOne, flat_reading};
+use crate::answers::ReadOne;
 use menu_readings::{ResolvedPane, ResolvedSrt};
 use player::Player;
 
@@ -20,7 +20,7 @@ pub fn menu_read_pane(
 ) -> ReadOne
     ensures { result ≡ read_one_of (read_pane_of sheet.now book.now player (keys frames.now values.now slopes.now) pane channel) }
 {
-    flat_reading(menu_readings::read_pane(
+    ReadOne::from(menu_readings::read_pane(
         player, sheet, book, frames, values, slopes, pane, channel,
     ))
 }
@@ -37,7 +37,7 @@ pub fn menu_read_material(
 ) -> ReadOne
     ensures { result ≡ read_one_of (read_material_of sheet.now book.now player (keys frames.now values.now slopes.now) material channel) }
 {
-    flat_reading(menu_readings::read_material(
+    ReadOne::from(menu_readings::read_material(
         player, sheet, book, frames, values, slopes, material, channel,
     ))
 }

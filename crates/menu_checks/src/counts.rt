@@ -1,10 +1,10 @@
 // How much a sheet and a book hold, for callers that size their arrays by it. Declined by the layout alone.
 ghost use Rattle.std.specs.Prelude.{◌≡◌};
-ghost use Rattle.sheet.specs.Checked.{Checked};
-ghost use Rattle.book.specs.Checked.{CheckedBook};
-ghost use Rattle.menu_checks.specs.Counts.{sheet_counts_by, book_counts_by, sheet_counts_of, book_counts_of};
+ghost use Rattle.menu_checks.specs.Counts.{no_sheet_counts, no_book_counts, sheet_counts_by, book_counts_by, sheet_counts_of, book_counts_of};
 
-use laws::refusal::{ACCEPTED, BOOK_LAYOUT, SHEET_LAYOUT};
+use book::Book;
+use laws::refusal::ACCEPTED;
+use sheet::Sheet;
 
 // A track is a target. Each key array is `keys` long.
 #[repr(C)]
@@ -28,60 +28,62 @@ pub struct BookCounts {
     pub channels: u16,
 }
 
-fn of_sheet(s: &[u8]) -> SheetCounts
-    requires { Checked s.now }
-    ensures { result ≡ sheet_counts_by 0 s.now }
+#[tactic(auto, unfolding(crate::specs::Counts::sheet_counts_by, crate::specs::Counts::counted))]
+fn of_sheet(sheet: &Sheet) -> SheetCounts
+    ensures { result ≡ sheet_counts_by 0 sheet.now.bytes.now }
 {
     SheetCounts {
         refusal: ACCEPTED,
-        animations: sheet::animation_count(s) as u16,
-        contents: sheet::content_count(s) as u16,
-        tracks: sheet::target_count(s) as u16,
-        keys: sheet::key_count(s) as u16,
-        textures: sheet::texture_count(s) as u16,
+        animations: sheet.animation_count() as u16,
+        contents: sheet.content_count() as u16,
+        tracks: sheet.target_count() as u16,
+        keys: sheet.key_count() as u16,
+        textures: sheet.texture_count() as u16,
     }
 }
 
 // Refusal 1.
+#[tactic(auto, using(laws::specs::Refused::refused), unfolding(crate::specs::Counts::sheet_counts_of, crate::specs::Counts::sheet_counts_table, crate::specs::Counts::sheet_counts_by, crate::specs::Counts::counted))]
 pub fn sheet_counts(s: &[u8]) -> SheetCounts
     ensures { result ≡ sheet_counts_of s.now }
 {
-    if sheet::sheet_ok(s) {
-        return of_sheet(s);
-    }
-    SheetCounts {
-        refusal: SHEET_LAYOUT,
-        animations: 0,
-        contents: 0,
-        tracks: 0,
-        keys: 0,
-        textures: 0,
+    match Sheet::new(s) {
+        Ok(sheet) => of_sheet(&sheet),
+        Err(e) => SheetCounts {
+            refusal: e.number(),
+            animations: 0,
+            contents: 0,
+            tracks: 0,
+            keys: 0,
+            textures: 0,
+        },
     }
 }
 
-fn of_book(b: &[u8]) -> BookCounts
-    requires { CheckedBook b.now }
-    ensures { result ≡ book_counts_by 0 b.now }
+#[tactic(auto, unfolding(crate::specs::Counts::book_counts_by, crate::specs::Counts::counted, channel::specs::Channel::channel_count))]
+fn of_book(book: &Book) -> BookCounts
+    ensures { result ≡ book_counts_by 0 book.now.bytes.now }
 {
     BookCounts {
         refusal: ACCEPTED,
-        panes: book::pane_count(b) as u16,
-        materials: book::material_count(b) as u16,
-        channels: channel::channel_count(b) as u16,
+        panes: book.pane_count() as u16,
+        materials: book.material_count() as u16,
+        channels: channel::channel_count(book.bytes) as u16,
     }
 }
 
 // Refusal 2.
+#[tactic(auto, using(laws::specs::Refused::refused), unfolding(crate::specs::Counts::book_counts_of, crate::specs::Counts::book_counts_table, crate::specs::Counts::book_counts_by, crate::specs::Counts::counted))]
 pub fn book_counts(b: &[u8]) -> BookCounts
     ensures { result ≡ book_counts_of b.now }
 {
-    if book::book_ok(b) {
-        return of_book(b);
-    }
-    BookCounts {
-        refusal: BOOK_LAYOUT,
-        panes: 0,
-        materials: 0,
-        channels: 0,
+    match Book::new(b) {
+        Ok(book) => of_book(&book),
+        Err(e) => BookCounts {
+            refusal: e.number(),
+            panes: 0,
+            materials: 0,
+            channels: 0,
+        },
     }
 }

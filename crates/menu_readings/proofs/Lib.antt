@@ -1,2 +1,1 @@
--- The laws that the proofs of this crate cite.
-pub mod Answers
+-- No proof of this crate needs a file.

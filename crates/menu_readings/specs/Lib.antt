@@ -2,3 +2,5 @@
 pub mod Rows
 pub mod Readings
 pub mod Slots
+pub mod Handed
+pub mod Ready

@@ -1,13 +1,12 @@
 -- What each reading gives (document 01, "Channels" and "What a call declines"): the number of the first row of its list that doesn't hold
 -- (specs/Rows), and the answer where each does. What is answered depends on the player only by its view. Definitions only.
-use Rattle.std.specs.Prelude.{ℕ, Bool, false, not, ◌&&◌, cond, List, [], eqb, Float}
+use Rattle.std.specs.Prelude.{ℕ, Bool, false, not, ◌&&◌, cond, List, [], eqb, Float, None}
 use Rattle.laws.specs.Rows.{declines}
 use Rattle.float.specs.Numbers.{zero'}
 use Rattle.float.specs.declared.vector.Srt.{Srt}
 use Rattle.channel.specs.Channel.{of_pane, of_material}
 use Rattle.reading.specs.Reading.{reading, marks_of, numbers_of}
-use Rattle.reading.specs.declared.Active.{Active}
-use Rattle.reading.specs.declared.Active.TheVariants as active
+use Rattle.reading.specs.Active.{Active, active_at}
 use Rattle.reading.specs.declared.Reading.{Reading}
 use Rattle.reading.specs.declared.Reading.TheVariants.{Nothing}
 use Rattle.resolve.specs.Resolve.{transform_of, visible_of, alpha_of, srt_of, texture_of}
@@ -24,7 +23,7 @@ use Rattle.menu_readings.specs.declared.resolved.ResolvedSrt.{ResolvedSrt}
 
 -- With nothing selected, or preview off, nothing is active.
 unfoldable pub active_in : View → Active
-active_in v = cond (v.preview && not (eqb v.selection none)) (active.At v.selection v.frame) active.Nothing
+active_in v = cond (v.preview && not (eqb v.selection none)) (active_at v.selection v.frame) None
 
 -- ---- the answers, by the refusal n. Refused numbers are +0, and what was lent is as it was.
 

@@ -4,7 +4,7 @@ use Rattle.std.specs.Prelude.{ℕ, ◌+◌, ◌<◌, ◌≤◌, ◌≡◌, refl,
 use Rattle.std.proofs.Math.Bool.{and-false}
 use Rattle.std.proofs.Math.Path.{sym}
 use Rattle.std.proofs.Common.{◌∙◌, lt-ltb, le-ltb}
-use Rattle.laws.specs.declared.Found.TheVariants as found
+use Rattle.std.specs.Prelude.{Some}
 use Rattle.laws.specs.Rows.{Hold, declines, fails, passes, no_rows, joined}
 use Rattle.book.specs.Sizes.{material_count}
 use Rattle.channel.specs.Channel.{material_layers, first_texture, listed, material_channel, slot_channel}
@@ -32,6 +32,6 @@ module _ (s b : List ℕ) (p : Player) (ks : Keys) (m : ℕ) where
   next_channel_reads h l = joined (reading_rows s b p ks) _ h ∙ sym (passes 7 _ (rw (lt-ltb m (material_count b) l)) no_rows)
 
 -- it is the indirect rotation's
-pub next_channel_is : (layer : ℕ) → material_channel IndirectSrt 0 layer ≡ found.At (first_texture + material_layers)
+pub next_channel_is : (layer : ℕ) → material_channel IndirectSrt 0 layer ≡ Some (first_texture + material_layers)
 unfolding material_channel listed
 next_channel_is layer = refl

@@ -1,33 +1,52 @@
 // The cascade over the panes, by parent.
-ghost use Rattle.std.specs.Prelude.{◌≡◌};
+ghost use Rattle.std.specs.Prelude.{◌≡◌, length, IfOk, OnOk};
+ghost use Rattle.laws.specs.Refusal.{declined};
 ghost use Rattle.laws.specs.Rows.{declines};
+ghost use Rattle.book.specs.Sizes.{pane_count};
 ghost use Rattle.edit.specs.Keys.{keys};
-ghost use Rattle.book.specs.Checked.{CheckedBook};
-ghost use Rattle.menu_checks.specs.Rows.{behind};
-ghost use Rattle.menu_readings.specs.Rows.{cascade_rows};
+ghost use Rattle.menu_readings.specs.Rows.{cascade_table};
 ghost use Rattle.menu_readings.specs.Readings.{gave_cascade, cascade_of};
 
 use crate::active_in;
-use laws::refusal::{ACCEPTED, OUTPUT_LENGTH};
-use menu_checks::{check_book, check_state};
+use crate::checked::check_menu;
+use laws::refusal::ACCEPTED;
+use laws::{Refusal, ask};
 use player::Player;
+use reading::Menu;
 
-// Row 13, behind n.
-fn cascade_refusal(n: u8, b: &[u8], visible: &[u8], alpha: &[f32], influence: &[f32]) -> u8
-    requires { n ≡ 0 → CheckedBook b.now }
-    ensures { result ≡ behind n (declines (cascade_rows b.now visible.now alpha.now influence.now)) }
+#[tactic(auto, using(laws::specs::Refused::refused), unfolding(crate::specs::Rows::cascade_table, crate::specs::Rows::cascade_rows, laws::specs::Rows::declines, laws::specs::Rows::unless))]
+fn check_cascade<'a>(
+    p: &Player,
+    s: &'a [u8],
+    b: &'a [u8],
+    frames: &'a [f32],
+    values: &'a [f32],
+    slopes: &'a [f32],
+    visible: &[u8],
+    alpha: &[f32],
+    influence: &[f32],
+) -> Result<Menu<'a>, Refusal>
+    ensures declined { declined result ≡ declines (cascade_table s.now b.now p.now (keys frames.now values.now slopes.now) visible.now alpha.now influence.now) }
+    ensures sheet { IfOk result (λ m. m.ready.sheet.bytes.now ≡ s.now) }
+    ensures book { IfOk result (λ m. m.book.bytes.now ≡ b.now) }
+    ensures frames { IfOk result (λ m. m.ready.keys.frames.now ≡ frames.now) }
+    ensures values { IfOk result (λ m. m.ready.keys.values.now ≡ values.now) }
+    ensures slopes { IfOk result (λ m. m.ready.keys.slopes.now ≡ slopes.now) }
+    ensures visible_long { OnOk result (length visible.now ≡ pane_count b.now) }
+    ensures alpha_long { OnOk result (length alpha.now ≡ pane_count b.now) }
+    ensures influence_long { OnOk result (length influence.now ≡ pane_count b.now) }
 {
-    if n != ACCEPTED {
-        return n;
-    }
-    let count = book::pane_count(b);
-    if !((visible.len() == count) & (alpha.len() == count) & (influence.len() == count)) {
-        return OUTPUT_LENGTH;
-    }
-    ACCEPTED
+    let menu = check_menu(p, s, b, frames, values, slopes)?;
+    let n = menu.book.pane_count();
+    ask(
+        (visible.len() == n) & (alpha.len() == n) & (influence.len() == n),
+        Refusal::OutputLength,
+    )?;
+    Ok(menu)
 }
 
 // Each pane's visibility and alpha under its parents, and the influence that it hands its children. Refusals 1 to 5, 13.
+#[tactic(auto, using(laws::specs::Refused::refused), unfolding(crate::specs::Readings::cascade_of, crate::specs::Readings::cascaded_of))]
 pub fn cascade(
     p: Player,
     s: &[u8],
@@ -41,22 +60,11 @@ pub fn cascade(
 ) -> u8
     ensures { gave_cascade result visible.new alpha.new influence.new ≡ cascade_of s.now b.now p (keys frames.now values.now slopes.now) visible.old alpha.old influence.old }
 {
-    let first = check_book(s, b, frames, values, slopes);
-    let n = check_state(first, p, s, frames, values, slopes);
-    let m = cascade_refusal(n, b, visible, alpha, influence);
-    if m != ACCEPTED {
-        return m;
+    match check_cascade(&p, s, b, frames, values, slopes, visible, alpha, influence) {
+        Ok(menu) => {
+            resolve::cascade_rows(&menu, active_in(&p), visible, alpha, influence);
+            ACCEPTED
+        }
+        Err(e) => e.number(),
     }
-    resolve::cascade(
-        s,
-        b,
-        frames,
-        values,
-        slopes,
-        active_in(p),
-        visible,
-        alpha,
-        influence,
-    );
-    ACCEPTED
 }

@@ -2,6 +2,7 @@
 #![tactic(auto)]
 
 mod cascaded;
+mod checked;
 mod resolved;
 mod single;
 mod whole;
@@ -13,20 +14,24 @@ ghost use Rattle.menu_readings.specs.Readings.{active_in};
 pub use cascaded::cascade;
 use edit::NONE;
 use player::Player;
-use reading::Active;
-pub use resolved::{ResolvedPane, ResolvedSrt, resolve_pane, resolve_srt, texture_name};
+use reading::At;
+pub use resolved::{
+    ResolvedPane, ResolvedSrt, find_texture_name, resolve_pane, resolve_srt, texture_name,
+};
 pub use single::{ReadOne, read_material, read_pane};
 pub use whole::read_all;
 
 // What is active: nothing without a selection or a preview.
-pub fn active_in(p: Player) -> Active
-    ensures { result ≡ active_in (view_of p) }
+#[tactic(auto, unfolding(crate::specs::Readings::active_in))]
+pub fn active_in(p: &Player) -> Option<At>
+    ensures { result ≡ active_in (view_of p.now) }
 {
-    if p.preview {
-        if p.selection == NONE {
-            return Active::Nothing;
-        }
-        return Active::At(p.selection as usize, p.frame);
+    if p.preview && p.selection != NONE {
+        Some(At {
+            animation: p.selection as usize,
+            frame: p.frame,
+        })
+    } else {
+        None
     }
-    Active::Nothing
 }

@@ -1,33 +1,50 @@
 // The whole reading: every channel of the book.
-ghost use Rattle.std.specs.Prelude.{◌≡◌};
+ghost use Rattle.std.specs.Prelude.{◌≡◌, length, IfOk, OnOk};
+ghost use Rattle.laws.specs.Refusal.{declined};
 ghost use Rattle.laws.specs.Rows.{declines};
+ghost use Rattle.channel.specs.Channel.{channel_count};
 ghost use Rattle.edit.specs.Keys.{keys};
-ghost use Rattle.book.specs.Checked.{CheckedBook};
-ghost use Rattle.menu_checks.specs.Rows.{behind};
-ghost use Rattle.menu_readings.specs.Rows.{tables_rows};
+ghost use Rattle.menu_readings.specs.Rows.{read_all_table};
 ghost use Rattle.menu_readings.specs.Readings.{gave_tables, read_all_of};
 
 use crate::active_in;
-use laws::refusal::{ACCEPTED, OUTPUT_LENGTH};
-use menu_checks::{check_book, check_state};
+use crate::checked::check_menu;
+use laws::refusal::ACCEPTED;
+use laws::{Refusal, ask};
 use player::Player;
+use reading::Menu;
 
-// Row 13, behind n.
-fn read_all_refusal(n: u8, b: &[u8], marks: &[u8], numbers: &[f32]) -> u8
-    requires { n ≡ 0 → CheckedBook b.now }
-    ensures { result ≡ behind n (declines (tables_rows b.now marks.now numbers.now)) }
+#[tactic(auto, using(laws::specs::Refused::refused), unfolding(crate::specs::Rows::read_all_table, crate::specs::Rows::tables_rows, laws::specs::Rows::declines, laws::specs::Rows::unless))]
+fn check_read_all<'a>(
+    p: &Player,
+    s: &'a [u8],
+    b: &'a [u8],
+    frames: &'a [f32],
+    values: &'a [f32],
+    slopes: &'a [f32],
+    marks: &[u8],
+    numbers: &[f32],
+) -> Result<Menu<'a>, Refusal>
+    ensures declined { declined result ≡ declines (read_all_table s.now b.now p.now (keys frames.now values.now slopes.now) marks.now numbers.now) }
+    ensures sheet { IfOk result (λ m. m.ready.sheet.bytes.now ≡ s.now) }
+    ensures book { IfOk result (λ m. m.book.bytes.now ≡ b.now) }
+    ensures frames { IfOk result (λ m. m.ready.keys.frames.now ≡ frames.now) }
+    ensures values { IfOk result (λ m. m.ready.keys.values.now ≡ values.now) }
+    ensures slopes { IfOk result (λ m. m.ready.keys.slopes.now ≡ slopes.now) }
+    ensures marks_long { OnOk result (length marks.now ≡ channel_count b.now) }
+    ensures numbers_long { OnOk result (length numbers.now ≡ channel_count b.now) }
 {
-    if n != ACCEPTED {
-        return n;
-    }
-    let count = channel::channel_count(b);
-    if !((marks.len() == count) & (numbers.len() == count)) {
-        return OUTPUT_LENGTH;
-    }
-    ACCEPTED
+    let menu = check_menu(p, s, b, frames, values, slopes)?;
+    let n = channel::channel_count(menu.book.bytes);
+    ask(
+        (marks.len() == n) & (numbers.len() == n),
+        Refusal::OutputLength,
+    )?;
+    Ok(menu)
 }
 
 // Every channel of the book: a mark (0 or 1) and a number each, panes first. Refusals 1 to 5, 13.
+#[tactic(auto, using(laws::specs::Refused::refused), unfolding(crate::specs::Readings::read_all_of, crate::specs::Readings::tables_of))]
 pub fn read_all(
     p: Player,
     s: &[u8],
@@ -40,12 +57,11 @@ pub fn read_all(
 ) -> u8
     ensures { gave_tables result marks.new numbers.new ≡ read_all_of s.now b.now p (keys frames.now values.now slopes.now) marks.old numbers.old }
 {
-    let first = check_book(s, b, frames, values, slopes);
-    let n = check_state(first, p, s, frames, values, slopes);
-    let m = read_all_refusal(n, b, marks, numbers);
-    if m != ACCEPTED {
-        return m;
+    match check_read_all(&p, s, b, frames, values, slopes, marks, numbers) {
+        Ok(menu) => {
+            menu.read_all(active_in(&p), marks, numbers);
+            ACCEPTED
+        }
+        Err(e) => e.number(),
     }
-    reading::read_all(s, b, frames, values, slopes, active_in(p), marks, numbers);
-    ACCEPTED
 }

@@ -1,33 +1,32 @@
--- Row 5's two questions of a player by the ways of `Player::numbers_ok` and `Player::used_ok`. Assumes nothing.
-use mathlib.Core.Path.{◌≡◌, ◌∙◌}
-use mathlib.Core.Bool.{Bool, true, false, and-false}
-use mathlib.Core.List.{List}
-use Prim.Native.Nat.{ℕ}
+-- The journal's used rows, counted by edit numbers. Assumes nothing.
+use Rattle.std.specs.Prelude.{ℕ, ◌+◌, ◌-◌, ◌<◌, ◌≡◌, Bool, true, List, map, length, get_or}
+use Rattle.std.specs.List.{list_all, range_with_len}
+use Rattle.std.proofs.Common.{ap, sym, ◌∙◌, arith, ext_get_or}
+use Rattle.std.proofs.lemmas.List.Folds.{list_all-map}
+use Rattle.std.proofs.lemmas.List.FromFn.{length-map-range_with_len, get_or-map-range_with_len}
 use Rattle.laws.specs.Below.{all_below}
-use Rattle.float.specs.Numbers.{finite}
 use Rattle.player.specs.declared.Player.{Player}
-use Rattle.player.specs.Drag.{drag_ok}
-use Rattle.player.specs.Player.{selection_ok, counts_ok, numbers_ok}
+use Rattle.player.specs.Journal.{row_of}
+use Rattle.player.specs.Player.{entry_ok, used_ok, counts_ok}
+use Rattle.player.specs.Sound.{counts}
 
-module _ (s : List ℕ) (p : Player) where
-  pub selection_no : selection_ok s p.selection ≡ false → false ≡ numbers_ok s p
-  unfolding numbers_ok
-  selection_no e = rw e
-
-  pub frame_no : finite p.frame ≡ false → false ≡ numbers_ok s p
-  unfolding numbers_ok
-  frame_no e = simp (e, and-false)
-
-  pub counts_no : counts_ok p.reach p.redo p.accepted p.undone p.redone p.standing ≡ false → false ≡ numbers_ok s p
-  unfolding numbers_ok
-  counts_no e = simp (e, and-false)
-
-  pub drag_left : {r : Bool} → selection_ok s p.selection ≡ true → finite p.frame ≡ true → counts_ok p.reach p.redo p.accepted p.undone p.redone p.standing ≡ true
-      → r ≡ drag_ok s p.drag → r ≡ numbers_ok s p
-  unfolding numbers_ok
-  drag_left a b c e = e ∙ rw (a, b, c)
-
--- no row is used
-pub none_used : (n : ℕ) (f : ℕ → Bool) → n ≡ 0 → true ≡ all_below n f
+-- n numbers from a on
+all_from : (a n : ℕ) (p : ℕ → Bool) → list_all p (range_with_len a n) ≡ all_below n (λ i. p (a + i))
 unfolding all_below
-none_used n f z = rw z
+all_from a n p =
+    sym (list_all-map (λ b. b) p (range_with_len a n))
+    ∙ ap (list_all (λ b. b)) (ext_get_or true _ _ (length-map-range_with_len p a n ∙ sym (length-map-range_with_len (λ i. p (a + i)) 0 n)) same)
+    ∙ list_all-map (λ b. b) (λ i. p (a + i)) (range_with_len 0 n)
+  where
+    same : (i : ℕ) → i < length (map p (range_with_len a n)) → get_or (map p (range_with_len a n)) i true ≡ get_or (map (λ j. p (a + j)) (range_with_len 0 n)) i true
+    same i h =
+        let l = length-map-range_with_len p a n in
+        get_or-map-range_with_len p a n i (a + i) true (omega arith) (omega arith) ∙ sym (get_or-map-range_with_len (λ i. p (a + i)) 0 n i i true (omega arith) (omega arith))
+
+pub used_rows : (s : List ℕ) (p : Player) → counts_ok p.reach p.redo p.accepted p.undone p.redone p.standing ≡ true
+    → list_all (λ n. entry_ok s (row_of p.journal n)) (range_with_len (p.standing - p.reach) (p.standing + p.redo - (p.standing - p.reach))) ≡ all_below (p.reach + p.redo) (used_ok s p.journal (p.standing - p.reach))
+unfolding used_ok
+used_rows s p e =
+    let c = counts _ _ _ _ _ _ e in
+    let n : p.standing + p.redo - (p.standing - p.reach) ≡ p.reach + p.redo = omega (arith, c.below) in
+    rw n (all_from (p.standing - p.reach) (p.reach + p.redo) (λ k. entry_ok s (row_of p.journal k)))

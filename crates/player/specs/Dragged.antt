@@ -7,10 +7,10 @@ use Rattle.curve.specs.declared.Key.{Key}
 use Rattle.edit.specs.Keys.{Keys, keys_ok_of}
 use Rattle.edit.specs.Edit.{has_key, spot_of}
 use Rattle.edit.specs.Spot.{InsideAll}
-use Rattle.edit.specs.Put.{fits_at, has_key_lem, spot_inside, put_fits}
+use Rattle.edit.specs.Put.{has_key_lem, spot_inside}
 use Rattle.player.specs.declared.Player.{Player}
 use Rattle.player.specs.declared.drag.Drag.{Drag}
-use Rattle.player.specs.Drag.{no_drag, start_of, drop_unchanged, drag_entry, drag_ok, put_back, drag_fits}
+use Rattle.player.specs.Drag.{no_drag, drop_unchanged, drag_entry, drag_ok}
 use Rattle.player.specs.Parts.{with_drag}
 use Rattle.player.specs.Edited.{edited_player}
 
@@ -36,7 +36,3 @@ module _ {s : List ℕ} {ks : Keys} {d : Drag} (w : Draggable s ks d) (o : d.«o
 
   pub drag_inside : InsideAll ks.frames ks.values ks.slopes (spot_of s d.track d.key)
   drag_inside = spot_inside w.sheet ks w.rules d.track d.key drag_key.0 drag_key.1
-
-  pub fits_by_spot : drag_fits s ks d ≡ fits_at ks.frames (spot_of s d.track d.key) (start_of d)
-  unfolding drag_fits put_back
-  fits_by_spot = rw o (put_fits w.sheet ks w.rules d.track d.key drag_key.0 drag_key.1 (start_of d))

@@ -87,6 +87,10 @@ sound s p e =
     let a = both (selection_ok s p.selection) (finite p.frame) b.0 in
     record { selection = a.0; frame = a.1; counts = counts _ _ _ _ _ _ b.1; used = c.1; drag = d.1 }
 
+-- an open drag names a key of the sheet
+pub sound_drag : (s : List ℕ) (p : Player) → player_ok s p ≡ true → drag_ok s p.drag ≡ true
+sound_drag s p e = (sound s p e).drag
+
 module _ {s : List ℕ} {p : Player} (w : Sound s p) where
   -- what is selected is one of the animations
   pub selected_below : (p.selection ≡ none → ⊥) → p.selection < animation_count s

@@ -1,19 +1,22 @@
 // A drag: one key is held between its opening and its drop or its abandonment.
-ghost use Rattle.std.specs.Prelude.{◌≡◌};
-ghost use Rattle.sheet.specs.Checked.{Checked};
+ghost use Rattle.std.specs.Prelude.{◌≡◌, true};
 ghost use Rattle.edit.specs.Keys.{keys};
 ghost use Rattle.player.specs.Drag.{no_drag, opened_on, start_of, drop_unchanged, drag_entry, drag_ok, drag_fits};
-ghost use Rattle.player.specs.Dragged.{Draggable, dropped_player};
+ghost use Rattle.player.specs.Dragged.{dropped_player};
 ghost use Rattle.player.specs.Parts.{with_drag};
 ghost use Rattle.player.specs.Counts.{CanEdit};
 
 use crate::Player;
 use crate::journal::Entry;
 use curve::Key;
-use edit::put::{fits_at, same_key};
-use edit::spot::{has_key, spot_of};
+use edit::put::same_key;
+use edit::spot::has_key;
+use edit::track_key::TrackKey;
+use keys::Ready;
+use sheet::Sheet;
 
 // `open` while a key is held, `moved` once a drag was accepted; the key's row, and the key as it was at opening. Closed, each is 0.
+// A flag beside them, and no option, as the struct passes to C.
 #[repr(C)]
 #[derive(Clone, Copy)]
 pub struct Drag {
@@ -68,49 +71,40 @@ impl Drag {
     }
 
     // Whether a drop of the key as it is now leaves no edit: no drag was accepted, or the key has its starting bits.
+    #[tactic(auto, unfolding(crate::specs::Drag::drop_unchanged))]
     pub fn unchanged(self, now: Key) -> bool
         ensures { result ≡ drop_unchanged self now }
     {
-        if !self.moved {
-            return true;
-        }
-        same_key(now, self.start())
+        !self.moved || same_key(now, self.start())
     }
 
     // The journal's entry of a drop: the key as it was at opening, and as it is now.
     fn entry(self, now: Key) -> Entry
         ensures { result ≡ drag_entry self now }
     {
-        let before = self.start();
         Entry {
             track: self.track,
             key: self.key,
-            before,
+            before: self.start(),
             after: now,
         }
     }
 
     // Row 5: an open drag's row is one of the sheet's keys.
-    pub fn ok(self, s: &[u8]) -> bool
-        requires { Checked s.now }
-        ensures { result ≡ drag_ok s.now self }
+    #[tactic(auto, unfolding(crate::specs::Drag::drag_ok))]
+    pub fn ok(&self, sheet: &Sheet) -> bool
+        ensures { result ≡ drag_ok sheet.now.bytes.now self.now }
     {
-        if !self.open {
-            return true;
-        }
-        has_key(s, self.track, self.key)
+        !self.open || has_key(sheet, self.track, self.key)
     }
 
     // Row 5 where keys are taken: an open drag's starting key, put back, keeps the key rules.
-    pub fn fits(self, s: &[u8], frames: &[f32], values: &[f32], slopes: &[f32]) -> bool
-        requires { Draggable s.now (keys frames.now values.now slopes.now) self }
-        ensures { result ≡ drag_fits s.now (keys frames.now values.now slopes.now) self }
+    #[tactic(auto, using(crate::specs::Dragged::open_has, crate::proofs::Drags::fits_checked), unfolding(crate::specs::Drag::drag_fits))]
+    pub fn fits(self, ready: &Ready) -> bool
+        requires { drag_ok ready.now.sheet.bytes.now self ≡ true }
+        ensures { result ≡ drag_fits ready.now.sheet.bytes.now (keys ready.now.keys.frames.now ready.now.keys.values.now ready.now.keys.slopes.now) self }
     {
-        if !self.open {
-            return true;
-        }
-        let p = spot_of(s, self.track as usize, self.key);
-        fits_at(frames, p, self.start())
+        !self.open || TrackKey::of(ready, self.track, self.key).fits(self.start())
     }
 }
 
@@ -122,6 +116,7 @@ impl Player {
     }
 
     // The player after a drop, the key being `now`. An unchanged one is no edit.
+    #[tactic(auto, unfolding(crate::specs::Dragged::dropped_player))]
     pub fn dropped(self, now: Key) -> Player
         requires { CanEdit self }
         ensures { result ≡ dropped_player self now }
@@ -129,8 +124,9 @@ impl Player {
         let d = self.drag;
         let closed = self.with_drag(Drag::closed());
         if d.unchanged(now) {
-            return closed;
+            closed
+        } else {
+            closed.after_edit(d.entry(now))
         }
-        closed.after_edit(d.entry(now))
     }
 }

@@ -9,6 +9,7 @@ use crate::journal::{Entry, ROWS};
 
 impl Player {
     // Row standing % 128 takes the entry.
+    #[tactic(auto, unfolding(crate::specs::Edited::edited_player))]
     pub fn after_edit(self, e: Entry) -> Player
         requires { CanEdit self }
         ensures { result ≡ edited_player self e }
@@ -29,8 +30,5 @@ fn one_more(reach: u64) -> u64
     requires { reach ≤ rows }
     ensures { result ≡ one_more reach }
 {
-    if reach < ROWS {
-        return reach + 1;
-    }
-    ROWS
+    (reach + 1).min(ROWS)
 }

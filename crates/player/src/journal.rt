@@ -1,8 +1,12 @@
 // The journal: a row for each edit that can be undone or redone. Row n % 128 belongs to standing edit number n.
-ghost use Rattle.std.specs.Prelude.{◌≡◌};
+ghost use Rattle.std.specs.Prelude.{◌≡◌, ◌-◌};
+ghost use Rattle.std.specs.List.{list_all, range_with_len};
 ghost use Rattle.player.specs.Journal.{row_of, with_row, empty_journal};
+ghost use Rattle.player.specs.Player.{entry_ok};
 
 use curve::Key;
+use edit::spot::has_key;
+use sheet::Sheet;
 
 // How many edits back an undo reaches.
 pub const ROWS: u64 = 128;
@@ -15,6 +19,7 @@ pub struct Entry {
     pub after: Key,
 }
 
+// Eight arrays, and not one of entries: the layout that C has.
 #[repr(C)]
 #[derive(Clone, Copy)]
 pub struct Journal {
@@ -44,28 +49,44 @@ impl Journal {
         }
     }
 
-    pub fn row(self, n: u64) -> Entry
-        ensures { result ≡ row_of self n }
+    #[tactic(auto, unfolding(crate::specs::Journal::row_of))]
+    pub fn row(&self, n: u64) -> Entry
+        ensures { result ≡ row_of self.now n }
     {
         let i = (n % ROWS) as usize;
-        let before = Key {
-            frame: self.before_frame[i],
-            value: self.before_value[i],
-            slope: self.before_slope[i],
-        };
-        let after = Key {
-            frame: self.after_frame[i],
-            value: self.after_value[i],
-            slope: self.after_slope[i],
-        };
         Entry {
             track: self.track[i],
             key: self.key[i],
-            before,
-            after,
+            before: Key {
+                frame: self.before_frame[i],
+                value: self.before_value[i],
+                slope: self.before_slope[i],
+            },
+            after: Key {
+                frame: self.after_frame[i],
+                value: self.after_value[i],
+                slope: self.after_slope[i],
+            },
         }
     }
 
+    // Whether the row of edit number n names a key of the sheet: two of the arrays are read.
+    #[tactic(auto, unfolding(crate::specs::Journal::row_of))]
+    pub fn names_key(&self, sheet: &Sheet, n: u64) -> bool
+        ensures { result ≡ entry_ok sheet.now.bytes.now (row_of self.now n) }
+    {
+        let i = (n % ROWS) as usize;
+        has_key(sheet, self.track[i], self.key[i])
+    }
+
+    // Whether the rows of these edits all do.
+    pub fn names_keys(&self, sheet: &Sheet, first: u64, end: u64) -> bool
+        ensures { result ≡ list_all (λ n. entry_ok sheet.now.bytes.now (row_of self.now n)) (range_with_len first (end - first)) }
+    {
+        (first..end).all(|n| self.names_key(sheet, n))
+    }
+
+    #[tactic(auto, unfolding(crate::specs::Journal::with_row))]
     pub fn with_row(mut self, n: u64, e: Entry) -> Journal
         ensures { result ≡ with_row self n e }
     {

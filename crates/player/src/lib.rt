@@ -44,6 +44,7 @@ pub enum Tick {
 }
 
 impl Player {
+    #[tactic(auto, unfolding(crate::specs::Player::fresh_player))]
     pub fn fresh() -> Player
         ensures { result ≡ fresh_player }
     {

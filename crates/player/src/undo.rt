@@ -1,14 +1,15 @@
 // Undo and redo: the entry that each takes, and the counts after it. Both are one step over an entry.
-ghost use Rattle.std.specs.Prelude.{◌≡◌, ◌-◌};
+ghost use Rattle.std.specs.Prelude.{◌≡◌, true};
 ghost use Rattle.edit.specs.Keys.{keys};
-ghost use Rattle.player.specs.Undo.{turned, entry_of, takes_ok, take_fits, undone_player, redone_player, taken_player};
+ghost use Rattle.player.specs.Player.{entry_ok, player_ok};
+ghost use Rattle.player.specs.Undo.{entries, turned, entry_of, takes_ok, take_fits, undone_player, redone_player, taken_player};
 ghost use Rattle.player.specs.Counts.{CanUndo, CanRedo, CanTake};
-ghost use Rattle.player.specs.Takes.{Returnable, Takeable};
 
 use crate::Player;
 use crate::journal::Entry;
-use edit::put::{fits_at, same_key};
-use edit::spot::spot_of;
+use edit::put::same_key;
+use edit::track_key::TrackKey;
+use keys::Ready;
 
 // Which way an entry is taken.
 #[derive(Clone, Copy)]
@@ -22,91 +23,76 @@ impl Entry {
     fn turned(self) -> Entry
         ensures { result ≡ turned self }
     {
-        let before = self.after;
-        let after = self.before;
         Entry {
-            track: self.track,
-            key: self.key,
-            before,
-            after,
+            before: self.after,
+            after: self.before,
+            ..self
         }
     }
-}
 
-// Whether an entry may be taken: its key is, bit for bit, as the entry finds it, and may stand there as the entry leaves it.
-fn takes_ok(s: &[u8], frames: &[f32], values: &[f32], slopes: &[f32], e: Entry) -> bool
-    requires { Returnable s.now (keys frames.now values.now slopes.now) e }
-    ensures { result ≡ takes_ok s.now (keys frames.now values.now slopes.now) e }
-{
-    let p = spot_of(s, e.track as usize, e.key);
-    if !same_key(curve::key_at(frames, values, slopes, p.at), e.before) {
-        return false;
+    // Whether the entry may be taken: its key is, bit for bit, as the entry finds it, and may stand there as the entry leaves it.
+    #[tactic(auto, using(crate::specs::Takes::takes_checked))]
+    fn fits(self, ready: &Ready) -> bool
+        requires { entry_ok ready.now.sheet.bytes.now self ≡ true }
+        ensures { result ≡ takes_ok ready.now.sheet.bytes.now (keys ready.now.keys.frames.now ready.now.keys.values.now ready.now.keys.slopes.now) self }
+    {
+        let key = TrackKey::of(ready, self.track, self.key);
+        same_key(key.key(), self.before) && key.fits(self.after)
     }
-    fits_at(frames, p, e.after)
-}
-
-// Row 5 of an undo or a redo that takes e, the first of n entries: there is none, or it may be taken. While a drag is open, nothing is asked.
-pub fn take_fits(
-    s: &[u8],
-    frames: &[f32],
-    values: &[f32],
-    slopes: &[f32],
-    dragging: bool,
-    n: u64,
-    e: Entry,
-) -> bool
-    requires { Takeable s.now (keys frames.now values.now slopes.now) n e }
-    ensures { result ≡ take_fits s.now (keys frames.now values.now slopes.now) dragging n e }
-{
-    if dragging {
-        return true;
-    }
-    if n == 0 {
-        return true;
-    }
-    takes_ok(s, frames, values, slopes, e)
-}
-
-// The number of the last of n edits, or 0 where there is none.
-fn last_of(n: u64) -> u64
-    ensures { result ≡ n - 1 }
-{
-    if n == 0 {
-        return 0;
-    }
-    n - 1
 }
 
 impl Player {
-    // The entry that is taken. With no standing edit an undo's is the journal's first row, which nothing takes.
-    pub fn entry(self, way: Way) -> Entry
-        ensures { result ≡ entry_of way self }
+    // How many entries there are to take.
+    pub fn entries(&self, way: Way) -> u64
+        ensures { result ≡ entries way self.now }
     {
         match way {
-            Way::Undo => self.journal.row(last_of(self.standing)).turned(),
+            Way::Undo => self.reach,
+            Way::Redo => self.redo,
+        }
+    }
+
+    // Row 5 of an undo or a redo: there is no entry to take, or it may be taken. While a drag is open, nothing is asked.
+    #[tactic(auto, using(crate::specs::Takes::entry_sound), unfolding(crate::specs::Undo::take_fits))]
+    pub fn take_fits(&self, ready: &Ready, way: Way) -> bool
+        requires { player_ok ready.now.sheet.bytes.now self.now ≡ true }
+        ensures { result ≡ take_fits ready.now.sheet.bytes.now (keys ready.now.keys.frames.now ready.now.keys.values.now ready.now.keys.slopes.now) self.now.drag.open (entries way self.now) (entry_of way self.now) }
+    {
+        self.drag.open || self.entries(way) == 0 || self.entry(way).fits(ready)
+    }
+
+    // The entry that is taken. With no standing edit an undo's is the journal's first row, which nothing takes.
+    #[tactic(auto, unfolding(crate::specs::Undo::entry_of))]
+    pub fn entry(&self, way: Way) -> Entry
+        ensures { result ≡ entry_of way self.now }
+    {
+        match way {
+            Way::Undo => self.journal.row(self.standing.saturating_sub(1)).turned(),
             Way::Redo => self.journal.row(self.standing),
         }
     }
 
+    #[tactic(auto, unfolding(crate::specs::Undo::undone_player))]
     fn after_undo(mut self) -> Player
         requires { CanUndo self }
         ensures { result ≡ undone_player self }
     {
-        self.reach = self.reach - 1;
-        self.redo = self.redo + 1;
-        self.undone = self.undone + 1;
-        self.standing = self.standing - 1;
+        self.reach -= 1;
+        self.redo += 1;
+        self.undone += 1;
+        self.standing -= 1;
         self
     }
 
+    #[tactic(auto, unfolding(crate::specs::Undo::redone_player))]
     fn after_redo(mut self) -> Player
         requires { CanRedo self }
         ensures { result ≡ redone_player self }
     {
-        self.reach = self.reach + 1;
-        self.redo = self.redo - 1;
-        self.redone = self.redone + 1;
-        self.standing = self.standing + 1;
+        self.reach += 1;
+        self.redo -= 1;
+        self.redone += 1;
+        self.standing += 1;
         self
     }
 

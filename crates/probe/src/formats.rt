@@ -1,4 +1,6 @@
 // Whether bytes are a sheet, or a book, whether keys follow the key rules, and loading.
+use laws::refusal::ACCEPTED;
+
 pub fn probe_sheet_ok(s: &[u8]) -> bool {
     sheet::sheet_ok(s)
 }
@@ -12,5 +14,8 @@ pub fn probe_keys_ok(s: &[u8], frames: &[f32], values: &[f32], slopes: &[f32]) -
 }
 
 pub fn probe_load(s: &[u8], frames: &mut [f32], values: &mut [f32], slopes: &mut [f32]) -> u8 {
-    keys::load_keys(s, frames, values, slopes)
+    match keys::load_keys(s, frames, values, slopes) {
+        Ok(()) => ACCEPTED,
+        Err(e) => e.number(),
+    }
 }

@@ -7,43 +7,53 @@ pub mod apart;
 pub mod formats;
 pub mod readings;
 
-ghost use Rattle.std.specs.Prelude.{◌≡◌, true};
-ghost use Rattle.float.specs.Rising.{rising};
-ghost use Rattle.curve.specs.Curve.{Readable};
+ghost use Rattle.std.specs.Prelude.{◌≡◌, ◌<◌, length, IfSome};
+ghost use Rattle.float.specs.Rising.{not_below, rising};
+ghost use Rattle.curve.specs.Curve.{Ordered};
+ghost use Rattle.curve.specs.Kind.{number};
 
+use curve::{HERMITE, Keys, Kind};
+
+// Whether frame i is not below the one before it; frame 0 is held against itself.
+#[tactic(auto, unfolding(float::specs::Rising::not_below))]
+fn not_below(frames: &[f32], i: usize) -> bool
+    requires { i < length frames.now }
+    ensures { result ≡ not_below frames.now 0 i }
+{
+    frames[i.saturating_sub(1)] <= frames[i]
+}
+
+#[tactic(auto, unfolding(float::specs::Rising::rising_in, laws::specs::Below::all_below))]
 fn never_falls(frames: &[f32]) -> bool
     ensures { result ≡ rising frames.now }
 {
-    let mut i = 0;
-    // the frame before i; frame 0 is held against itself
-    let mut last = 0;
-    while i < frames.len() {
-        if frames[last] <= frames[i] {
-            last = i;
-            i += 1;
-        } else {
-            return false;
-        }
-    }
-    true
+    (0..frames.len()).all(|i| not_below(frames, i))
 }
 
-fn can_read(kind: u8, frames: &[f32], values: &[f32], slopes: &[f32]) -> bool
-    ensures { result ≡ true → Readable kind frames.now values.now slopes.now }
+// The kind and the keys of a curve that can be read. A Constant's frames may fall.
+fn curve_of<'a>(
+    kind: u8,
+    frames: &'a [f32],
+    values: &'a [f32],
+    slopes: &'a [f32],
+) -> Option<(Kind, Keys<'a>)>
+    ensures { IfSome result (λ c. Ordered (number c.0) c.1.frames.now) }
 {
-    if kind > curve::HERMITE {
-        return false;
+    if kind > HERMITE {
+        return None;
     }
-    if values.len() != frames.len() {
-        return false;
+    let keys = Keys::new(frames, values, slopes)?;
+    let kind = Kind::of(kind as usize);
+    match kind {
+        Kind::Constant => Some((kind, keys)),
+        Kind::Step | Kind::Hermite => {
+            if never_falls(frames) {
+                Some((kind, keys))
+            } else {
+                None
+            }
+        }
     }
-    if slopes.len() != frames.len() {
-        return false;
-    }
-    if kind == curve::CONSTANT {
-        return true;
-    }
-    never_falls(frames)
 }
 
 pub fn probe_eval_curve(
@@ -53,10 +63,9 @@ pub fn probe_eval_curve(
     slopes: &[f32],
     frame: f32,
 ) -> f32 {
-    if can_read(kind, frames, values, slopes) {
-        curve::eval_curve(kind, frames, values, slopes, frame)
-    } else {
-        0.0
+    match curve_of(kind, frames, values, slopes) {
+        Some((kind, keys)) => keys.value(kind, frame),
+        None => 0.0,
     }
 }
 
@@ -67,9 +76,8 @@ pub fn probe_eval_curve_step_u16(
     slopes: &[f32],
     frame: f32,
 ) -> u32 {
-    if can_read(kind, frames, values, slopes) {
-        curve::eval_curve_step_u16(kind, frames, values, slopes, frame) as u32
-    } else {
-        0
+    match curve_of(kind, frames, values, slopes) {
+        Some((kind, keys)) => float::cut_u16(keys.value(kind, frame)) as u32,
+        None => 0,
     }
 }

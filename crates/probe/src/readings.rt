@@ -1,68 +1,55 @@
 // A whole reading, without a player.
-ghost use Rattle.std.specs.Prelude.{◌≡◌, true, length};
-ghost use Rattle.reading.specs.Ready.{Ready};
+ghost use Rattle.std.specs.Prelude.{◌≡◌, length, IfOk};
+ghost use Rattle.channel.specs.Channel.{channel_count};
 ghost use Rattle.reading.specs.Plan.{Planned};
-ghost use Rattle.probe.specs.Readable.{CanReadAll};
 
-use reading::{Active, MOST_TARGETS, Plan};
+use book::Book;
+use keys::Ready;
+use laws::{Refusal, ask};
+use reading::{At, MOST_TARGETS, Menu, Plan};
+use sheet::Sheet;
 
-// Rows 1, 2 and 4 of the table decline nothing.
-pub fn ready(s: &[u8], b: &[u8], frames: &[f32], values: &[f32], slopes: &[f32]) -> bool
-    ensures { result ≡ true → Ready s.now b.now frames.now values.now slopes.now }
-{
-    sheet::sheet_ok(s) & book::book_ok(b) & keys::keys_ok(s, frames, values, slopes)
-}
-
-// Nor does row 13.
-fn can_read_all(
-    s: &[u8],
-    b: &[u8],
-    frames: &[f32],
-    values: &[f32],
-    slopes: &[f32],
+// What can be read into so many marks and numbers: rows 1 to 4 and 13 of the table of refusals decline nothing.
+fn menu_of<'a>(
+    s: &'a [u8],
+    b: &'a [u8],
+    frames: &'a [f32],
+    values: &'a [f32],
+    slopes: &'a [f32],
     marks: usize,
     numbers: usize,
-) -> bool
-    ensures { result ≡ true → CanReadAll s.now b.now frames.now values.now slopes.now marks numbers }
+) -> Result<Menu<'a>, Refusal>
+    ensures marks { IfOk result (λ m. marks ≡ channel_count m.book.bytes.now) }
+    ensures numbers { IfOk result (λ m. numbers ≡ channel_count m.book.bytes.now) }
 {
-    if !ready(s, b, frames, values, slopes) {
-        return false;
-    }
+    let sheet = Sheet::new(s)?;
+    let book = Book::new(b)?;
+    let ready = Ready::lent(sheet, frames, values, slopes)?;
     let count = channel::channel_count(b);
-    (marks == count) & (numbers == count)
-}
-
-fn active(selected: bool, animation: usize, frame: f32) -> Active {
-    if selected {
-        Active::At(animation, frame)
-    } else {
-        Active::Nothing
-    }
+    ask(marks == count, Refusal::OutputLength)?;
+    ask(numbers == count, Refusal::OutputLength)?;
+    Ok(Menu { ready, book })
 }
 
 // `times` rows of a plan, at frames that lie a step apart.
 fn read_rows(
-    s: &[u8],
-    b: &[u8],
+    menu: &Menu<'_>,
     p: Plan,
     channels: &[u16],
-    frames: &[f32],
-    values: &[f32],
-    slopes: &[f32],
     frame: f32,
     step: f32,
     times: usize,
     marks: &mut [u8],
     numbers: &mut [f32],
 )
-    requires { CanReadAll s.now b.now frames.now values.now slopes.now (length marks.old) (length numbers.old) × Planned s.now b.now p channels.now }
+    requires planned { Planned menu.now.ready.sheet.bytes.now menu.now.book.bytes.now p channels.now }
+    requires marks_len { length marks.old ≡ channel_count menu.now.book.bytes.now }
+    requires numbers_len { length numbers.old ≡ channel_count menu.now.book.bytes.now }
 {
     let mut x = frame;
-    let mut k = 0;
-    while k < times {
-        reading::read_row(s, b, p, channels, frames, values, slopes, x, marks, numbers);
-        x = x + step;
-        k += 1;
+    for _ in 0..times {
+        menu.read_row(p, channels, x, marks, numbers);
+        x += step;
     }
 }
 
@@ -80,14 +67,12 @@ pub fn probe_read_frames(
     marks: &mut [u8],
     numbers: &mut [f32],
 ) -> bool {
-    if !can_read_all(s, b, frames, values, slopes, marks.len(), numbers.len()) {
+    let Ok(menu) = menu_of(s, b, frames, values, slopes, marks.len(), numbers.len()) else {
         return false;
-    }
+    };
     let mut channels = [0u16; MOST_TARGETS];
-    let p = reading::plan_of(s, b, animation, &mut channels);
-    read_rows(
-        s, b, p, &channels, frames, values, slopes, frame, step, times, marks, numbers,
-    );
+    let p = menu.plan_of(animation, &mut channels);
+    read_rows(&menu, p, &channels, frame, step, times, marks, numbers);
     true
 }
 
@@ -105,24 +90,17 @@ pub fn probe_read_times(
     marks: &mut [u8],
     numbers: &mut [f32],
 ) -> bool {
-    if !can_read_all(s, b, frames, values, slopes, marks.len(), numbers.len()) {
+    let Ok(menu) = menu_of(s, b, frames, values, slopes, marks.len(), numbers.len()) else {
         return false;
-    }
+    };
     let mut x = frame;
-    let mut k = 0;
-    while k < times {
-        reading::read_all(
-            s,
-            b,
-            frames,
-            values,
-            slopes,
-            Active::At(animation, x),
-            marks,
-            numbers,
-        );
-        x = x + step;
-        k += 1;
+    for _ in 0..times {
+        let at = At {
+            animation,
+            frame: x,
+        };
+        menu.read_all(Some(at), marks, numbers);
+        x += step;
     }
     true
 }
@@ -140,18 +118,14 @@ pub fn probe_read_all(
     marks: &mut [u8],
     numbers: &mut [f32],
 ) -> bool {
-    if can_read_all(s, b, frames, values, slopes, marks.len(), numbers.len()) {
-        reading::read_all(
-            s,
-            b,
-            frames,
-            values,
-            slopes,
-            active(selected, animation, frame),
-            marks,
-            numbers,
-        );
-        return true;
-    }
-    false
+    let Ok(menu) = menu_of(s, b, frames, values, slopes, marks.len(), numbers.len()) else {
+        return false;
+    };
+    let active = if selected {
+        Some(At { animation, frame })
+    } else {
+        None
+    };
+    menu.read_all(active, marks, numbers);
+    true
 }

@@ -6,36 +6,33 @@ use mathlib.Core.Path.{◌≡◌, sym, ◌∙◌, ap}
 use borrow.Author.Tests.{eqb-true, ne_eqb}
 use lib.Dec.{eqb}
 use lib.ListN.{length}
-use Rattle.laws.specs.Rows.{declines, passes, stops, goes, held}
+use Rattle.std.specs.Prelude.{Bool, false, refl, Ok}
+use Rattle.laws.specs.Refusal.{asked}
+use Rattle.laws.specs.declared.refusal.Refusal.{Refusal}
+use Rattle.laws.specs.Rows.{declines, held}
 use Rattle.laws.specs.Tests.{and_1, and_2}
 use Rattle.laws.specs.Table.{table_length}
-use Rattle.sheet.specs.Sheet.{sheet_ok}
 use Rattle.sheet.specs.Checked.{checked}
 use Rattle.book.specs.Sizes.{pane_count}
-use Rattle.book.specs.Book.{book_ok}
 use Rattle.book.specs.Checked.{checked_book}
 use Rattle.keys.specs.Checked.{keys_checked}
 use Rattle.channel.specs.Channel.{channel_count}
 use Rattle.edit.specs.Keys.{Keys}
 use Rattle.reach.specs.Touched.{channel_marks, pane_marks}
 use Rattle.reach.specs.Calls.{reach_table, gave_marks, reach_of}
-use Rattle.reach.specs.Ready.{ComparedIn, keys_rows, output_rows}
+use Rattle.reach.specs.Ready.{ComparedIn}
 
 -- the channels' marks are one a channel
 pub marks_long : (s b : List ℕ) (ks ls : Keys) (a : ℕ) {l : List ℕ} → l ≡ channel_marks s b ks ls a → length l ≡ channel_count b
 unfolding channel_marks
 marks_long s b ks ls a e = ap length e ∙ table_length (channel_count b) _
 
+-- a row that was asked and passed holds
+pub asked_holds : (r : Refusal) (b : Bool) {u : Unit {0}} → asked r b ≡ Ok u → b ≡ true
+asked_holds r true e = refl
+asked_holds r false e = cc
+
 module _ (s b : List ℕ) (ks ls : Keys) (a : ℕ) (channels panes : List ℕ) where
-  -- past the first two rows, those of the keys, and then those of the outputs, decide
-  pub keys_decline : {n : ℕ} → sheet_ok s ≡ true → book_ok b ≡ true → n ≡ declines (keys_rows s ks ls) → (n ≡ 0 → ⊥) → n ≡ declines (reach_table s b ks ls a channels panes)
-  unfolding reach_table
-  keys_decline p q e d = passes 1 _ p (passes 2 _ q (stops (keys_rows s ks ls) (output_rows s b a channels panes) e d))
-
-  pub outputs_decide : {n m : ℕ} → sheet_ok s ≡ true → book_ok b ≡ true → n ≡ declines (keys_rows s ks ls) → n ≡ 0 → m ≡ declines (output_rows s b a channels panes) → m ≡ declines (reach_table s b ks ls a channels panes)
-  unfolding reach_table
-  outputs_decide p q e z h = passes 1 _ p (passes 2 _ q (goes (keys_rows s ks ls) (output_rows s b a channels panes) tt e z h))
-
   module _ {n : ℕ} (e : n ≡ declines (reach_table s b ks ls a channels panes)) where
     pub refused : (n ≡ 0 → ⊥) → gave_marks n channels panes ≡ reach_of s b ks ls a channels panes
     unfolding reach_of

@@ -13,6 +13,8 @@ use Rattle.book.specs.Sizes.{pane_count, no_parent}
 use Rattle.book.specs.Rows.{pane_row}
 use Rattle.book.specs.Checked.{CheckedBook, pane_parent_lem}
 use Rattle.book.specs.declared.rows.Pane.{Pane}
+use Rattle.std.specs.Int.{from_bool}
+use Rattle.resolve.proofs.Down.{byte_is}
 use Rattle.resolve.specs.Own.{bit_of}
 use Rattle.resolve.specs.Follow.{Handed, fixed, handed_under, handed_above, handed_from, handed, follows}
 use Rattle.reach.specs.Touched.{own_marked, visible_marked, alpha_marked, pane_mark, pane_marks}
@@ -90,13 +92,13 @@ module _ {b marks visible influence panes : List ℕ} {i : ℕ} (m : Made b mark
   -- one turn: what is handed down is read, then the row's own marks, and the three parts are stored
   pub made_more : {pane : Pane} {shown faded own shows fades : Bool} {v f k : ℕ} → CheckedBook b → i < pane_count b → pane ≡ pane_row b i → shown ≡ handed_in visible pane.parent → faded ≡ handed_in influence pane.parent →
       own ≡ own_marked marks i → shows ≡ visible_marked marks i → fades ≡ alpha_marked marks i →
-      v ≡ bit_of (shown || shows) → f ≡ bit_of (faded || (pane.influences && fades)) → k ≡ bit_of own + 2 * bit_of (shown || faded) →
+      v ≡ from_bool (shown || shows) → f ≡ from_bool (faded || (pane.influences && fades)) → k ≡ from_bool own + 2 * from_bool (shown || faded) →
       Made b marks (set visible i v) (set influence i f) (set panes i k) (i + 1)
   made_more {pane} {shown} {faded} {own} {shows} {fades} w l e up down o s a v f k =
       record {
-        shown = grown_more m.shown (omega (arith, w.sizes.panes)) (v ∙ ap bit_of visible_is);
-        faded = grown_more m.faded (omega (arith, w.sizes.panes)) (f ∙ ap bit_of influence_is);
-        marked = filled_more m.marked l (k ∙ mark_is);
+        shown = grown_more m.shown (omega (arith, w.sizes.panes)) (v ∙ byte_is _ ∙ ap bit_of visible_is);
+        faded = grown_more m.faded (omega (arith, w.sizes.panes)) (f ∙ byte_is _ ∙ ap bit_of influence_is);
+        marked = filled_more m.marked l (k ∙ rw (byte_is, byte_is) mark_is);
       }
     where
       visible_is : (shown || shows) ≡ (rows_of b marks (grow i (rows_of b marks)) i).visible

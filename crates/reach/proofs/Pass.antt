@@ -6,10 +6,9 @@ use mathlib.Core.List.{List}
 use mathlib.Core.Path.{◌≡◌, refl, sym, ◌∙◌, ap}
 use native.Mathlib.Omega.{arith}
 use lib.ListN.{length, set, get_or}
-use Rattle.laws.specs.Table.{table, table_length}
 use Rattle.laws.specs.Swept.{Swept, swept_none, swept_past, swept_at, swept_to}
-use Rattle.laws.specs.declared.Found.{Found}
-use Rattle.laws.specs.declared.Found.TheVariants as found
+use Rattle.std.specs.Prelude.{Option}
+use Rattle.std.specs.Prelude.{Some, None}
 use Rattle.sheet.specs.Sizes.{target_count}
 use Rattle.book.specs.Checked.{CheckedBook}
 use Rattle.channel.specs.Channel.{channel_count, target_channel}
@@ -18,21 +17,18 @@ use Rattle.reading.specs.Reading.{last_target, no_mark}
 use Rattle.channel.specs.Animation.{other_animation}
 use Rattle.reading.specs.Plan.{no_channel, channel_number, Run, Numbered}
 use Rattle.reading.specs.Numbers.{number_fits, number_none, number_at_lem}
+use Rattle.reading.proofs.Pass.{filled_table}
 use Rattle.reading.specs.declared.plan.Plan.{Plan}
+use Rattle.std.specs.Prelude.{replicate}
+use Rattle.std.specs.Int.{from_bool}
+use Rattle.resolve.proofs.Down.{byte_is}
 use Rattle.resolve.specs.Own.{bit_of}
 use Rattle.edit.specs.Keys.{Keys}
 use Rattle.reach.specs.Touched.{same_track, differs_at, touched, channel_marks}
 
--- a cleared table, and its length
-pub cleared_all : {n m : ℕ} {l : List ℕ} → l ≡ table m no_mark → m ≡ n → l ≡ table n no_mark
-cleared_all e q = rw q at e
-
-pub cleared : (n : ℕ) {l : List ℕ} → l ≡ table n no_mark → length l ≡ n
-cleared n e = ap length e ∙ table_length n no_mark
-
 module _ (s b : List ℕ) (ks ls : Keys) (p : Plan) where
   -- what the table has for a channel whose last target is o
-  abbrev pub mark_at : ℕ → Found → ℕ
+  abbrev pub mark_at : ℕ → Option ℕ → ℕ
   mark_at c o = bit_of (differs_at s ks ls o)
 
   -- the targets below i are passed
@@ -42,16 +38,16 @@ module _ (s b : List ℕ) (ks ls : Keys) (p : Plan) where
     pub marked : Swept (target_channel s b p.animation) mark_at (channel_count b) marks i
 
 -- no target before or behind the run is the animation's
-before : {s : List ℕ} (b : List ℕ) {p : Plan} → Run s p → (t : ℕ) → 0 ≤ t → t < p.from → target_channel s b p.animation t ≡ found.Nothing
+before : {s : List ℕ} (b : List ℕ) {p : Plan} → Run s p → (t : ℕ) → 0 ≤ t → t < p.from → target_channel s b p.animation t ≡ None
 before {s} b {p} r t f l = other_animation s b p.animation t (r.before t l)
 
-behind : {s : List ℕ} (b : List ℕ) {p : Plan} {i : ℕ} → Run s p → p.to ≤ i → (t : ℕ) → i ≤ t → t < target_count s → target_channel s b p.animation t ≡ found.Nothing
+behind : {s : List ℕ} (b : List ℕ) {p : Plan} {i : ℕ} → Run s p → p.to ≤ i → (t : ℕ) → i ≤ t → t < target_count s → target_channel s b p.animation t ≡ None
 behind {s} b {p} r l t f m = other_animation s b p.animation t (r.behind t (omega arith) m)
 
 module _ {s b : List ℕ} {ks ls : Keys} {p : Plan} {marks : List ℕ} (r : Run s p) where
-  pub pass_none : {i : ℕ} → i ≡ p.from → marks ≡ table (channel_count b) no_mark → Pass s b ks ls p marks i
+  pub pass_none : {i : ℕ} → i ≡ p.from → marks ≡ replicate (channel_count b) 0 → Pass s b ks ls p marks i
   pass_none {i} e k =
-      rw e (record { from = omega arith; to = r.order; marked = swept_to (swept_none _ _ _ no_mark k (λ c. refl)) (omega arith) (before b r) })
+      rw e (record { from = omega arith; to = r.order; marked = swept_to (swept_none _ _ _ no_mark (k ∙ filled_table _ _) (λ c. refl)) (omega arith) (before b r) })
 
   module _ {numbers : List ℕ} {i n : ℕ} (w : Pass s b ks ls p marks i) (h : Numbered s b p numbers p.to) (l : i < p.to) (e : n ≡ get_or numbers i 0) where
     number : n ≡ channel_number (target_channel s b p.animation i)
@@ -70,17 +66,17 @@ module _ {s b : List ℕ} {ks ls : Keys} {p : Plan} {marks : List ℕ} (r : Run 
         }
 
     -- a target that addresses channel n
-    addressed : (n ≡ no_channel → ⊥) → target_channel s b p.animation i ≡ found.At n
-    addressed q = number_at_lem (target_channel s b p.animation i) (λ z. q (number ∙ z)) ∙ ap found.At (sym number)
+    addressed : (n ≡ no_channel → ⊥) → target_channel s b p.animation i ≡ Some n
+    addressed q = number_at_lem (target_channel s b p.animation i) (λ z. q (number ∙ z)) ∙ ap Some (sym number)
 
     pub pass_room : (n ≡ no_channel → ⊥) → n < length marks
     pass_room q = let u = target_within s b p.animation i n (addressed q) in omega (arith, w.marked.long)
 
-    pub pass_at : {same : Bool} {m : ℕ} → (n ≡ no_channel → ⊥) → same ≡ same_track s ks ls i → m ≡ bit_of (not same) → Pass s b ks ls p (set marks n m) (i + 1)
+    pub pass_at : {same : Bool} {m : ℕ} → (n ≡ no_channel → ⊥) → same ≡ same_track s ks ls i → m ≡ from_bool (not same) → Pass s b ks ls p (set marks n m) (i + 1)
     pass_at q f d =
         let g = addressed q in
         let u = target_within s b p.animation i n g in
-        record { from = omega (arith, w.from); to = omega arith; marked = swept_at w.marked g u (rw f at d) }
+        record { from = omega (arith, w.from); to = omega arith; marked = swept_at w.marked g u (rw f at (d ∙ byte_is _)) }
 
   pub pass_all : {i : ℕ} → Pass s b ks ls p marks i → p.to ≤ i → marks ≡ channel_marks s b ks ls p.animation
   unfolding channel_marks touched last_target

@@ -1,4 +1,4 @@
--- When two readings are the same, and how far their numbers are apart (document 01, "Channels"). The test is true exactly where they are equal
+-- When two readings are the same, and how far their numbers are apart. The test is true exactly where they are equal
 -- (`same_then`, `same_only`). Assumes nothing.
 use Rattle.std.specs.Prelude.{ℕ, Bool, true, false, not, cond, ◌≡◌, refl, T, eqb, Float}
 use Rattle.std.proofs.Common.{sym, ap, eqb-true, eq-eqb}

@@ -1,4 +1,4 @@
--- The call that marks what differing keys reach: what it declines (document 01, "What a call declines", by rising number), and what it leaves in its two
+-- The call that marks what differing keys reach: what it declines (by rising number), and what it leaves in its two
 -- outputs. Definitions only.
 use Rattle.std.specs.Prelude.{ℕ, ◌&&◌, cond, List, [], ◌∷◌, eqb, ltb, length}
 use Rattle.laws.specs.Rows.{Row, row, declines}

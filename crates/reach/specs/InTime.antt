@@ -9,8 +9,8 @@ use Rattle.std.proofs.Math.Dec.{eqb, ltb}
 use Rattle.std.proofs.Math.ListN.{get_or-eq_default}
 use Rattle.std.specs.Float.{nan, binary32}
 use Rattle.std.specs.Float.Ieee.{fits}
-use Rattle.laws.specs.declared.Found.{Found}
-use Rattle.laws.specs.declared.Found.TheVariants as found
+use Rattle.std.specs.Prelude.{Option}
+use Rattle.std.specs.Prelude.{Some, None}
 use Rattle.float.specs.Rising.{part_rising}
 use Rattle.sheet.specs.Sizes.{target_count}
 use Rattle.sheet.specs.Rows.{target_row}
@@ -26,7 +26,7 @@ use Rattle.curve.proofs.Outside.{outside_same}
 use Rattle.reading.specs.Reading.{value_at, value16_at, row_reading, target_reading, last_target, reading}
 use Rattle.reading.proofs.LastTarget.{last_target_only}
 use Rattle.reading.specs.Untouched.{track_reads}
-use Rattle.reading.specs.declared.Active.TheVariants as active
+use Rattle.reading.specs.Active.{active_at}
 use Rattle.edit.specs.Keys.{Keys, key_at, HeldKeys}
 use Rattle.edit.specs.Edit.{place}
 use Rattle.reach.specs.Ready.{Compared}
@@ -126,15 +126,15 @@ module _ {s : List ℕ} {ks ls : Keys} (w : Compared s ks ls) (hk : HeldKeys ks)
   -- So where t alone has other keys, and reads the same at x, everything does.
   pub then_all : (others : (u : ℕ) → u < target_count s → (u ≡ t → ⊥) → SameTrack s ks ls u) (x : Float)
       → target_reading s ls.frames ls.values ls.slopes x t ≡ target_reading s ks.frames ks.values ks.slopes x t
-      → (b : List ℕ) (a c : ℕ) → SameReading s b ks ls (active.At a x) c
+      → (b : List ℕ) (a c : ℕ) → SameReading s b ks ls (active_at a x) c
   unfolding reading
   then_all others x e b a c = go (last_target s b a c) refl
     where
-      same_track_lem : (u : ℕ) → last_target s b a c ≡ found.At u → (q : Bool) → eqb u t ≡ q → target_reading s ls.frames ls.values ls.slopes x u ≡ target_reading s ks.frames ks.values ks.slopes x u
+      same_track_lem : (u : ℕ) → last_target s b a c ≡ Some u → (q : Bool) → eqb u t ≡ q → target_reading s ls.frames ls.values ls.slopes x u ≡ target_reading s ks.frames ks.values ks.slopes x u
       same_track_lem u f true q = rw (eqb-true u t q) e
       same_track_lem u f false q =
           track_reads s b ks.frames ks.values ks.slopes ls.frames ls.values ls.slopes u x (others u (last_target_only s b a c u f).within (eqb-false u t q))
 
-      go : (o : Found) → last_target s b a c ≡ o → reading s b ls.frames ls.values ls.slopes (active.At a x) c ≡ reading s b ks.frames ks.values ks.slopes (active.At a x) c
-      go (found.At u) f = rw f (same_track_lem u f (eqb u t) refl)
-      go found.Nothing f = rw f
+      go : (o : Option ℕ) → last_target s b a c ≡ o → reading s b ls.frames ls.values ls.slopes (active_at a x) c ≡ reading s b ks.frames ks.values ks.slopes (active_at a x) c
+      go (Some u) f = rw f (same_track_lem u f (eqb u t) refl)
+      go None f = rw f

@@ -9,7 +9,7 @@ use borrow.Author.Tests.{eqb-true, ltb-true, ltb-false, not-true, not-false}
 use Rattle.std.specs.Float.{nan}
 use Rattle.laws.specs.Below.{all_at}
 use Rattle.laws.specs.Table.{table_at}
-use Rattle.laws.specs.declared.Found.TheVariants as found
+use Rattle.std.specs.Prelude.{Some}
 use Rattle.float.specs.Numbers.{zero'}
 use Rattle.sheet.specs.Sizes.{target_count}
 use Rattle.sheet.specs.Rows.{target_row}
@@ -24,8 +24,7 @@ use Rattle.channel.specs.Within.{pane_below}
 use Rattle.reading.specs.Reading.{last_target, reading, marks_of, numbers_of}
 use Rattle.reading.proofs.LastTarget.{last_target_only}
 use Rattle.reading.specs.Untouched.{SameKeys, untouched_reads, untouched_whole}
-use Rattle.reading.specs.declared.Active.{Active}
-use Rattle.reading.specs.declared.Active.TheVariants as active
+use Rattle.reading.specs.Active.{Active, active_at}
 use Rattle.resolve.specs.Resolve.{transform_of, visible_of, alpha_of, srt_of, texture_of}
 use Rattle.resolve.specs.Own.{bit_of}
 use Rattle.resolve.specs.Cascade.{root, cascade}
@@ -99,29 +98,29 @@ module _ {s : List ℕ} {ks ls : Keys} (w : Compared s ks ls) (hk : HeldKeys ks)
   -- ---- channels
   module _ (b : List ℕ) (a : ℕ) where
     -- what is not touched is decided by a track that has the same keys, if by any
-    decided_same : (c : ℕ) → touched s b ks ls a c ≡ false → (t : ℕ) → last_target s b a c ≡ found.At t → SameTrack s ks ls t
+    decided_same : (c : ℕ) → touched s b ks ls a c ≡ false → (t : ℕ) → last_target s b a c ≡ Some t → SameTrack s ks ls t
     unfolding touched
     decided_same c e t q = same_keys t (last_target_only s b a c t q).within (not-false (same_track s ks ls t) (rw q at e))
 
     module _ (x : Float) where
       -- it reads the same at every frame
-      pub channel_same : (c : ℕ) → touched s b ks ls a c ≡ false → SameReading s b ks ls (active.At a x) c
-      channel_same c e = untouched_reads s b ks.frames ks.values ks.slopes ls.frames ls.values ls.slopes (active.At a x) c (decided_same c e)
+      pub channel_same : (c : ℕ) → touched s b ks ls a c ≡ false → SameReading s b ks ls (active_at a x) c
+      channel_same c e = untouched_reads s b ks.frames ks.values ks.slopes ls.frames ls.values ls.slopes (active_at a x) c (decided_same c e)
 
       -- and has the same mark and number in the whole reading
       pub whole_same : (c : ℕ) → c < channel_count b → touched s b ks ls a c ≡ false
-          → (get_or (marks_of s b ls.frames ls.values ls.slopes (active.At a x)) c 0 ≡ get_or (marks_of s b ks.frames ks.values ks.slopes (active.At a x)) c 0)
-          × (get_or (numbers_of s b ls.frames ls.values ls.slopes (active.At a x)) c zero' ≡ get_or (numbers_of s b ks.frames ks.values ks.slopes (active.At a x)) c zero')
-      whole_same c l e = untouched_whole s b ks.frames ks.values ks.slopes ls.frames ls.values ls.slopes (active.At a x) c l (decided_same c e)
+          → (get_or (marks_of s b ls.frames ls.values ls.slopes (active_at a x)) c 0 ≡ get_or (marks_of s b ks.frames ks.values ks.slopes (active_at a x)) c 0)
+          × (get_or (numbers_of s b ls.frames ls.values ls.slopes (active_at a x)) c zero' ≡ get_or (numbers_of s b ks.frames ks.values ks.slopes (active_at a x)) c zero')
+      whole_same c l e = untouched_whole s b ks.frames ks.values ks.slopes ls.frames ls.values ls.slopes (active_at a x) c l (decided_same c e)
 
       -- a layer none of whose five channels is touched, and a texture slot whose channel isn't
       pub layer_same : (m layer : ℕ) → ((k : ℕ) → k < 5 → touched s b ks ls a (of_material b m (layer * 5 + k)) ≡ false)
-          → srt_of s b ls.frames ls.values ls.slopes (active.At a x) m layer ≡ srt_of s b ks.frames ks.values ks.slopes (active.At a x) m layer
-      layer_same m layer h = srt_same s b ks.frames ks.values ks.slopes ls.frames ls.values ls.slopes (active.At a x) m layer (λ k l. channel_same (of_material b m (layer * 5 + k)) (h k l))
+          → srt_of s b ls.frames ls.values ls.slopes (active_at a x) m layer ≡ srt_of s b ks.frames ks.values ks.slopes (active_at a x) m layer
+      layer_same m layer h = srt_same s b ks.frames ks.values ks.slopes ls.frames ls.values ls.slopes (active_at a x) m layer (λ k l. channel_same (of_material b m (layer * 5 + k)) (h k l))
 
       pub name_same : (m slot : ℕ) → touched s b ks ls a (of_material b m (slot_channel slot)) ≡ false
-          → texture_of s b ls.frames ls.values ls.slopes (active.At a x) m slot ≡ texture_of s b ks.frames ks.values ks.slopes (active.At a x) m slot
-      name_same m slot e = texture_same s b ks.frames ks.values ks.slopes ls.frames ls.values ls.slopes (active.At a x) m slot (channel_same (of_material b m (slot_channel slot)) e)
+          → texture_of s b ls.frames ls.values ls.slopes (active_at a x) m slot ≡ texture_of s b ks.frames ks.values ks.slopes (active_at a x) m slot
+      name_same m slot e = texture_same s b ks.frames ks.values ks.slopes ls.frames ls.values ls.slopes (active_at a x) m slot (channel_same (of_material b m (slot_channel slot)) e)
 
   -- ---- panes, by their marks
   module _ {b : List ℕ} (wb : CheckedBook b) (a : ℕ) where
@@ -143,21 +142,21 @@ module _ {s : List ℕ} {ks ls : Keys} (w : Compared s ks ls) (hk : HeldKeys ks)
       own k m = not-true _ (all_at pane_channels (λ k. not (marked marks p k)) k (not-false _ mark_none.0) m)
 
       -- A pane whose mark is 0 is the same at every frame.
-      pub pane_untouched : (x : Float) → PaneSame s b ks ls (active.At a x) p
+      pub pane_untouched : (x : Float) → PaneSame s b ks ls (active_at a x) p
       pane_untouched x =
           record {
             channels = each;
-            transform = transform_same s b ks.frames ks.values ks.slopes ls.frames ls.values ls.slopes (active.At a x) p (λ k m. each k (omega arith));
-            visible = visible_same s b ks.frames ks.values ks.slopes ls.frames ls.values ls.slopes (active.At a x) p (each visible_channel (omega arith));
-            alpha = alpha_same s b ks.frames ks.values ks.slopes ls.frames ls.values ls.slopes (active.At a x) p (each alpha_channel (omega arith));
+            transform = transform_same s b ks.frames ks.values ks.slopes ls.frames ls.values ls.slopes (active_at a x) p (λ k m. each k (omega arith));
+            visible = visible_same s b ks.frames ks.values ks.slopes ls.frames ls.values ls.slopes (active_at a x) p (each visible_channel (omega arith));
+            alpha = alpha_same s b ks.frames ks.values ks.slopes ls.frames ls.values ls.slopes (active_at a x) p (each alpha_channel (omega arith));
             row =
-                cascade_untouched s wb ks.frames ks.values ks.slopes ls.frames ls.values ls.slopes (active.At a x) (visible_marked marks) (alpha_marked marks)
+                cascade_untouched s wb ks.frames ks.values ks.slopes ls.frames ls.values ls.slopes (active_at a x) (visible_marked marks) (alpha_marked marks)
                 (λ q m z. channel_same b a x (of_pane q visible_channel) (unmarked q visible_channel m (omega arith) z))
                 (λ q m z. channel_same b a x (of_pane q alpha_channel) (unmarked q alpha_channel m (omega arith) z))
                 p l mark_none.1 (own visible_channel (omega arith)) (own alpha_channel (omega arith));
           }
         where
-          each : (k : ℕ) → k < pane_channels → SameReading s b ks ls (active.At a x) (of_pane p k)
+          each : (k : ℕ) → k < pane_channels → SameReading s b ks ls (active_at a x) (of_pane p k)
           each k m = channel_same b a x (of_pane p k) (unmarked p k l m (own k m))
 
 -- ---- one key in another's place: every other track keeps its keys

@@ -3,8 +3,8 @@
 use Rattle.std.specs.Prelude.{ℕ, ◌+◌, ◌*◌, Bool, false, not, List, eqb, get_or}
 use Rattle.laws.specs.Below.{all_below}
 use Rattle.laws.specs.Table.{table}
-use Rattle.laws.specs.declared.Found.{Found}
-use Rattle.laws.specs.declared.Found.TheVariants as found
+use Rattle.std.specs.Prelude.{Option}
+use Rattle.std.specs.Prelude.{Some, None}
 use Rattle.sheet.specs.Rows.{target_row}
 use Rattle.book.specs.Sizes.{pane_count}
 use Rattle.channel.specs.Channel.{pane_channels, visible_channel, alpha_channel, channel_count, of_pane}
@@ -25,12 +25,12 @@ unfoldable pub same_track : List ℕ → Keys → Keys → ℕ → Bool
 same_track s ks ls t = all_below (target_row s t).count (same_at s ks ls t)
 
 -- the track that decides a channel, if there is one, has a key that differs
-abbrev pub differs_at : List ℕ → Keys → Keys → Found → Bool
-differs_at s ks ls (found.At t) = not (same_track s ks ls t)
-differs_at s ks ls found.Nothing = false
+abbrev pub differs_at : List ℕ → Keys → Keys → Option ℕ → Bool
+differs_at s ks ls (Some t) = not (same_track s ks ls t)
+differs_at s ks ls None = false
 
--- Touched: channel c is decided, while animation a is active, by a track that has a key that differs. (Document 01, "Channels": "the value is the last
--- such target's, in sheet order".)
+-- Touched: channel c is decided, while animation a is active, by a track that has a key that differs. (The value is the last such
+-- target's, in sheet order.)
 unfoldable pub touched : List ℕ → List ℕ → Keys → Keys → ℕ → ℕ → Bool
 touched s b ks ls a c = differs_at s ks ls (last_target s b a c)
 

@@ -1,65 +1,53 @@
 // The channels that differing keys reach: by a plan of the animation and one pass over its targets, as a whole reading.
 ghost use Rattle.std.specs.Prelude.{◌≡◌, length};
-ghost use Rattle.laws.specs.Table.{table};
 ghost use Rattle.channel.specs.Channel.{channel_count};
-ghost use Rattle.reading.specs.Reading.{no_mark};
-ghost use Rattle.reading.specs.Plan.{Planned};
 ghost use Rattle.edit.specs.Keys.{keys};
 ghost use Rattle.reach.specs.Touched.{channel_marks};
 ghost use Rattle.reach.specs.Ready.{ComparedIn};
 
-use crate::panes::bit;
-use crate::track::same_track;
-use reading::{MOST_TARGETS, Plan, plan_of};
+use crate::TwoSets;
+use book::Book;
+use reading::{MOST_TARGETS, Menu, NO_CHANNEL, Plan};
 
-// The number that stands for no channel in a plan.
-const NO_CHANNEL: u16 = 65535;
+impl<'a> TwoSets<'a> {
+    ghost use Rattle.std.specs.Prelude.{◌≡◌, length, replicate};
+    ghost use Rattle.channel.specs.Channel.{channel_count};
+    ghost use Rattle.reading.specs.Plan.{Planned};
+    ghost use Rattle.edit.specs.Keys.{keys};
+    ghost use Rattle.reach.specs.Touched.{channel_marks};
 
-fn clear(out: &mut [u8])
-    ensures { out.new ≡ table (length out.old) no_mark }
-{
-    let n = out.len();
-    let mut i = 0;
-    while i < n {
-        out[i] = 0;
-        i += 1;
-    }
-}
-
-// The pass over the planned targets, over a cleared table: a later target's mark is stored over an earlier one's. Only the contract speaks of the book.
-fn sweep(
-    s: &[u8],
-    b: &[u8],
-    p: Plan,
-    numbers: &[u16],
-    frames: &[f32],
-    values: &[f32],
-    slopes: &[f32],
-    new_frames: &[f32],
-    new_values: &[f32],
-    new_slopes: &[f32],
-    channels: &mut [u8],
-)
-    requires compared_in { ComparedIn s.now b.now (keys frames.now values.now slopes.now) (keys new_frames.now new_values.now new_slopes.now) × Planned s.now b.now p numbers.now }
-    requires channels_value { channels.old ≡ table (channel_count b.now) no_mark }
-    ensures { channels.new ≡ channel_marks s.now b.now (keys frames.now values.now slopes.now) (keys new_frames.now new_values.now new_slopes.now) p.animation }
-{
-    let mut next = p.from;
-    while next < p.to {
-        let t = next;
-        next += 1;
-        let c = numbers[t];
-        if c == NO_CHANNEL {
-            continue;
+    // The pass over the planned targets, over a cleared table: a later target's mark is stored over an earlier one's. Only the contract speaks of the book.
+    fn sweep(&self, book: &Book<'_>, p: Plan, numbers: &[u16], channels: &mut [u8])
+        requires planned { Planned self.now.old.sheet.bytes.now book.now.bytes.now p numbers.now }
+        requires channels_value { channels.old ≡ replicate (channel_count book.now.bytes.now) 0 }
+        ensures { channels.new ≡ channel_marks self.now.old.sheet.bytes.now book.now.bytes.now (keys self.now.old.keys.frames.now self.now.old.keys.values.now self.now.old.keys.slopes.now) (keys self.now.new.frames.now self.now.new.values.now self.now.new.slopes.now) p.animation }
+    {
+        for t in p.from..p.to {
+            let c = numbers[t];
+            if c == NO_CHANNEL {
+                continue;
+            }
+            channels[c as usize] = u8::from(!self.same_track(t));
         }
-        let same = same_track(
-            s, frames, values, slopes, new_frames, new_values, new_slopes, t,
-        );
-        channels[c as usize] = bit(!same);
+    }
+
+    // A mark for each channel of the book: 1 where the track that decides it, while animation a is active, has a key that differs.
+    pub fn touched_channels(&self, book: &Book<'_>, a: usize, channels: &mut [u8])
+        requires { length channels.old ≡ channel_count book.now.bytes.now }
+        ensures { channels.new ≡ channel_marks self.now.old.sheet.bytes.now book.now.bytes.now (keys self.now.old.keys.frames.now self.now.old.keys.values.now self.now.old.keys.slopes.now) (keys self.now.new.frames.now self.now.new.values.now self.now.new.slopes.now) a }
+    {
+        let menu = Menu {
+            ready: self.old,
+            book: *book,
+        };
+        let mut numbers = [0u16; MOST_TARGETS];
+        let p = menu.plan_of(a, &mut numbers);
+        channels.fill(0);
+        self.sweep(book, p, &numbers, channels);
     }
 }
 
-// A mark for each channel of the book: 1 where the track that decides it, while animation a is active, has a key that differs.
+// The same over lent slices.
 pub fn touched_channels(
     s: &[u8],
     b: &[u8],
@@ -75,10 +63,8 @@ pub fn touched_channels(
     requires { ComparedIn s.now b.now (keys frames.now values.now slopes.now) (keys new_frames.now new_values.now new_slopes.now) × (length channels.old ≡ channel_count b.now) }
     ensures { channels.new ≡ channel_marks s.now b.now (keys frames.now values.now slopes.now) (keys new_frames.now new_values.now new_slopes.now) a }
 {
-    let mut numbers = [0u16; MOST_TARGETS];
-    let p = plan_of(s, b, a, &mut numbers);
-    clear(channels);
-    sweep(
-        s, b, p, &numbers, frames, values, slopes, new_frames, new_values, new_slopes, channels,
+    let sets = TwoSets::lent(
+        s, frames, values, slopes, new_frames, new_values, new_slopes,
     );
+    sets.touched_channels(&Book { bytes: b }, a, channels);
 }

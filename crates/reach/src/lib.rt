@@ -5,12 +5,14 @@ mod call;
 mod channels;
 mod compared;
 mod panes;
+mod sets;
 mod sheets;
 mod track;
 
 pub use call::reach;
 pub use channels::touched_channels;
-pub use compared::{apart, change, same_reading};
+pub use compared::{change, same_reading};
 pub use panes::touched_panes;
+pub use sets::TwoSets;
 pub use sheets::same_sheet;
 pub use track::same_track;

@@ -1,23 +1,24 @@
 // Whether two sheets differ in their keys alone.
-ghost use Rattle.std.specs.Prelude.{◌≡◌};
+ghost use Rattle.std.specs.Prelude.{◌≡◌, ◌≤◌, length};
+ghost use Rattle.laws.specs.Below.{all_below};
 ghost use Rattle.sheet.specs.Checked.{Checked};
-ghost use Rattle.reach.specs.Sheets.{same_sheet};
+ghost use Rattle.reach.specs.Sheets.{same_byte, same_sheet};
+
+// Whether the first n bytes of both are the same.
+#[tactic(auto, unfolding(laws::specs::Below::all_below))]
+fn same_front(s: &[u8], t: &[u8], n: usize) -> bool
+    requires first { n ≤ length s.now }
+    requires second { n ≤ length t.now }
+    ensures { result ≡ all_below n (same_byte s.now t.now) }
+{
+    (0..n).all(|i| t[i] == s[i])
+}
 
 // Whether t agrees with the sheet s in length and in every byte before the key arrays.
+#[tactic(auto, unfolding(crate::specs::Sheets::same_sheet))]
 pub fn same_sheet(s: &[u8], t: &[u8]) -> bool
     requires { Checked s.now }
     ensures { result ≡ same_sheet s.now t.now }
 {
-    if t.len() != s.len() {
-        return false;
-    }
-    let n = keys::frames_at(s);
-    let mut i = 0;
-    while i < n {
-        if t[i] != s[i] {
-            return false;
-        }
-        i += 1;
-    }
-    true
+    t.len() == s.len() && same_front(s, t, keys::frames_at(s))
 }

@@ -1,39 +1,50 @@
 // Whether a track has the same keys in two sets of keys of one sheet, bit for bit.
-ghost use Rattle.std.specs.Prelude.{◌≡◌, ◌+◌, ◌<◌};
+ghost use Rattle.std.specs.Prelude.{◌≡◌, ◌<◌};
 ghost use Rattle.sheet.specs.Sizes.{target_count};
 ghost use Rattle.edit.specs.Keys.{keys};
 ghost use Rattle.reach.specs.Touched.{same_track};
-ghost use Rattle.reach.specs.Ready.{Compared, HasKeys, same_part};
+ghost use Rattle.reach.specs.Ready.{Compared};
 
+use crate::TwoSets;
 use edit::put::same_key;
 
-// The `count` keys from `first` on.
-fn same_part(
-    frames: &[f32],
-    values: &[f32],
-    slopes: &[f32],
-    new_frames: &[f32],
-    new_values: &[f32],
-    new_slopes: &[f32],
-    first: usize,
-    count: usize,
-) -> bool
-    requires { HasKeys (keys frames.now values.now slopes.now) (first + count) × HasKeys (keys new_frames.now new_values.now new_slopes.now) (first + count) }
-    ensures { result ≡ same_part (keys frames.now values.now slopes.now) (keys new_frames.now new_values.now new_slopes.now) first count }
-{
-    let mut i = 0;
-    while i < count {
-        let old = curve::key_at(frames, values, slopes, first + i);
-        let new = curve::key_at(new_frames, new_values, new_slopes, first + i);
-        if !same_key(old, new) {
-            return false;
-        }
-        i += 1;
+impl<'a> TwoSets<'a> {
+    ghost use Rattle.std.specs.Prelude.{◌≡◌, ◌+◌, ◌<◌, ◌≤◌};
+    ghost use Rattle.laws.specs.Below.{all_below};
+    ghost use Rattle.sheet.specs.Sizes.{key_count, target_count};
+    ghost use Rattle.edit.specs.Keys.{keys, key_at, same_key};
+    ghost use Rattle.reach.specs.Touched.{same_track};
+
+    // Whether the key at a place of the lists is.
+    #[tactic(auto, unfolding(edit::specs::Keys::key_at))]
+    fn same_at(&self, at: usize) -> bool
+        requires { at < key_count self.now.old.sheet.bytes.now }
+        ensures { result ≡ same_key (key_at (keys self.now.old.keys.frames.now self.now.old.keys.values.now self.now.old.keys.slopes.now) at) (key_at (keys self.now.new.frames.now self.now.new.values.now self.now.new.slopes.now) at) }
+    {
+        same_key(self.old.keys.key(at), self.new.key(at))
     }
-    true
+
+    // Whether each of the `count` keys from `first` on is.
+    #[tactic(auto, unfolding(laws::specs::Below::all_below))]
+    fn same_part(&self, first: usize, count: usize) -> bool
+        requires { first + count ≤ key_count self.now.old.sheet.bytes.now }
+        ensures { result ≡ all_below count (λ i. same_key (key_at (keys self.now.old.keys.frames.now self.now.old.keys.values.now self.now.old.keys.slopes.now) (first + i)) (key_at (keys self.now.new.frames.now self.now.new.values.now self.now.new.slopes.now) (first + i))) }
+    {
+        (0..count).all(|i| self.same_at(first + i))
+    }
+
+    // Whether each key of track t is.
+    #[tactic(auto, using(sheet::specs::Checked::target_keys), unfolding(crate::specs::Touched::same_track, edit::specs::Edit::place))]
+    pub fn same_track(&self, t: usize) -> bool
+        requires { t < target_count self.now.old.sheet.bytes.now }
+        ensures { result ≡ same_track self.now.old.sheet.bytes.now (keys self.now.old.keys.frames.now self.now.old.keys.values.now self.now.old.keys.slopes.now) (keys self.now.new.frames.now self.now.new.values.now self.now.new.slopes.now) t }
+    {
+        let row = self.old.sheet.target(t);
+        self.same_part(row.first, row.count)
+    }
 }
 
-// Whether each key of track t is the same in both.
+// The same over lent slices.
 pub fn same_track(
     s: &[u8],
     frames: &[f32],
@@ -47,8 +58,8 @@ pub fn same_track(
     requires { Compared s.now (keys frames.now values.now slopes.now) (keys new_frames.now new_values.now new_slopes.now) × (t < target_count s.now) }
     ensures { result ≡ same_track s.now (keys frames.now values.now slopes.now) (keys new_frames.now new_values.now new_slopes.now) t }
 {
-    let row = sheet::target_row(s, t);
-    same_part(
-        frames, values, slopes, new_frames, new_values, new_slopes, row.first, row.count,
+    TwoSets::lent(
+        s, frames, values, slopes, new_frames, new_values, new_slopes,
     )
+    .same_track(t)
 }

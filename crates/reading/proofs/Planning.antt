@@ -8,10 +8,10 @@ use borrow.Author.Tests.{ltb-true, ltb-false}
 use mathlib.Core.Logic.{⊎_elim}
 use native.Mathlib.Nat.{eq-or-lt_of_le, le_of_suc-le-suc}
 use lib.Dec.{ltb}
-use lib.ListN.{length, get_or, set, length-set}
+use lib.ListN.{get_or, set, length-set}
 use lib.Seq.{get_or-set_same, get_or-set_other}
 use Rattle.laws.specs.Parted.{Parted, Climbs}
-use Rattle.laws.specs.declared.Found.{Found}
+use Rattle.std.specs.Prelude.{Option, Some, None, IfSome}
 use Rattle.sheet.specs.Sizes.{animation_count, content_count, target_count, target_bytes, targets_at}
 use Rattle.sheet.specs.Rows.{target_at, target_row}
 use Rattle.sheet.specs.declared.rows.Target.{Target}
@@ -19,8 +19,10 @@ use Rattle.sheet.specs.Checked.{Checked, target_content_lem, target_climbs, cont
 use Rattle.book.specs.Checked.{CheckedBook}
 use Rattle.channel.specs.Channel.{row_channel, target_channel}
 use Rattle.channel.specs.Animation.{target_animation}
-use Rattle.channel.specs.Held.{held_for, Holds, holds_for}
-use Rattle.channel.specs.Within.{ReachedIn, active_in_lem}
+use Rattle.channel.specs.Held.{held_for}
+use Rattle.channel.specs.Channel.{active_reach}
+use Rattle.channel.specs.Within.{ReachedIn, SomeIn, active_in_lem}
+use Rattle.channel.specs.declared.Reached.{Reached}
 use Rattle.channel.specs.declared.reach.Held.{Held}
 use Rattle.reading.specs.declared.plan.Plan.{Plan}
 use Rattle.reading.specs.Plan.{no_channel, channel_number, Run, Numbered}
@@ -69,53 +71,30 @@ module _ (s : List ℕ) (i : ℕ) {row : Target} where
   pub row_content : Checked s → i < target_count s → row ≡ target_row s i → row.content < content_count s
   row_content w l e = rw e (target_content_lem w i l)
 
-pub held_in : (s : List ℕ) {b : List ℕ} (a c : ℕ) {h : Held} → h ≡ held_for s b a c → ReachedIn b h.reached
-held_in s {b} a c e = rw e (active_in_lem s b a c)
+pub held_in : (s b : List ℕ) (a c : ℕ) {h : Held} → h ≡ held_for s b a c → IfSome h.reached (ReachedIn b)
+held_in s b a c e = rw e (go (active_reach s b a c) (active_in_lem s b a c))
+  where
+    go : (o : Option Reached) → SomeIn b o → IfSome o (ReachedIn b)
+    go (Some r) h = h.some r refl
+    go None h = tt
 
 -- the channel of target t, by its row and by what its content reaches
-pub channel_is : (s b : List ℕ) (a t : ℕ) {row : Target} {h : Held} {o : Found} → row ≡ target_row s t → h ≡ held_for s b a row.content → o ≡ row_channel b h.reached row → target_channel s b a t ≡ o
+pub channel_is : (s b : List ℕ) (a t : ℕ) {row : Target} {h : Held} {o : Option ℕ} → row ≡ target_row s t → h ≡ held_for s b a row.content → o ≡ row_channel b h.reached row → target_channel s b a t ≡ o
 unfolding target_channel
 channel_is s b a t e k q = sym (rw k at q ∙ rw e)
 
 -- its number fits
-pub number_is : (s b : List ℕ) (a t : ℕ) {row : Target} {h : Held} {o : Found} → row ≡ target_row s t → h ≡ held_for s b a row.content → o ≡ row_channel b h.reached row → CheckedBook b → channel_number o ≤ no_channel
+pub number_is : (s b : List ℕ) (a t : ℕ) {row : Target} {h : Held} {o : Option ℕ} → row ≡ target_row s t → h ≡ held_for s b a row.content → o ≡ row_channel b h.reached row → CheckedBook b → channel_number o ≤ no_channel
 number_is s b a t e k q w = rw (channel_is s b a t e k q) at (number_fits s b a t w)
 
--- the targets of the run below i are numbered, in a list of n
-pub record Numbering (s b : List ℕ) (p : Plan) (n : ℕ) (held : Held) (channels : List ℕ) (i : ℕ) : Type 0 where
-  pub long : length channels ≡ n
-  pub from : p.from ≤ i
-  pub to : i ≤ p.to
-  pub holds : Holds s b p.animation held
-  pub numbers : Numbered s b p channels i
-
-module _ {s b : List ℕ} {p : Plan} {n : ℕ} {held : Held} {channels : List ℕ} where
-  pub numbering_none : {i : ℕ} → Run s p → Holds s b p.animation held → target_count s ≤ length channels → length channels ≡ n → i ≡ p.from → Numbering s b p n held channels i
-  numbering_none r h l k e =
+-- one target more of the run has its channel in the list
+module _ {s b : List ℕ} {p : Plan} {channels : List ℕ} where
+  pub numbered_more : {i m : ℕ} {row : Target} {h : Held} {o : Option ℕ} → Numbered s b p channels i → i < target_count s → row ≡ target_row s i → h ≡ held_for s b p.animation row.content → o ≡ row_channel b h.reached row → m ≡ channel_number o → Numbered s b p (set channels i m) (i + 1)
+  numbered_more {i} {m} {row} w l e k q z =
       record {
-        long = k;
-        from = omega arith;
-        to = omega (arith, r.order);
-        holds = h;
-        numbers = record { room = l; numbered = λ t m k. absurd (omega arith) };
-      }
-
-  pub numbering_more : {i m : ℕ} {row : Target} {h : Held} {o : Found} → Numbering s b p n held channels i → Run s p → i < p.to → row ≡ target_row s i → h ≡ held_for s b p.animation row.content → o ≡ row_channel b h.reached row → m ≡ channel_number o → Numbering s b p n h (set channels i m) (i + 1)
-  numbering_more {i} {m} {row} w r l e k q z =
-      record {
-        long = length-set channels i m ∙ w.long;
-        from = omega (arith, w.from);
-        to = omega arith;
-        holds = rw k (holds_for s b p.animation row.content);
-        numbers =
-            record {
-              room = omega (arith, length-set channels i m, w.numbers.room);
-              numbered = λ t f g. ⊎_elim (λ (y : t ≡ i). here t y) (λ (y : t < i). get_or-set_other channels i t m 0 (λ v. omega arith) ∙ w.numbers.numbered t f y) (eq-or-lt_of_le (le_of_suc-le-suc (omega arith)));
-            };
+        room = omega (arith, length-set channels i m, w.room);
+        numbered = λ t f g. ⊎_elim (λ (y : t ≡ i). here t y) (λ (y : t < i). get_or-set_other channels i t m 0 (λ v. omega arith) ∙ w.numbered t f y) (eq-or-lt_of_le (le_of_suc-le-suc (omega arith)));
       }
     where
       here : (t : ℕ) → t ≡ i → get_or (set channels i m) t 0 ≡ channel_number (target_channel s b p.animation t)
-      here t y = rw y (get_or-set_same channels i m 0 (omega (arith, r.within, w.numbers.room)) ∙ z ∙ ap channel_number (sym (channel_is s b p.animation i e k q)))
-
-  pub numbered_all : {i : ℕ} → Numbering s b p n held channels i → p.to ≤ i → Numbered s b p channels p.to
-  numbered_all {i} w l = let e : i ≡ p.to = omega (arith, w.to) in rw e at w.numbers
+      here t y = rw y (get_or-set_same channels i m 0 (omega (arith, w.room)) ∙ z ∙ ap channel_number (sym (channel_is s b p.animation i e k q)))

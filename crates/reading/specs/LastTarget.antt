@@ -1,11 +1,11 @@
--- The last-target rule as a reader expects it (document 01, "Channels"): its words, and what a target that addresses a channel reads. That readings keep
+-- The last-target rule as a reader expects it: its words, and what a target that addresses a channel reads. That readings keep
 -- the rule is shown in proofs/LastTarget. Assumes nothing.
 use Rattle.std.specs.Prelude.{ℕ, ◌<◌, ◌≤◌, List, Bool, true, false, cond, ◌≡◌, refl, ltb, Float}
 use Rattle.std.proofs.lemmas.Bool.{false≢true}
 use Rattle.std.proofs.Common.{arith}
 use borrow.Author.Tests.{ltb-false, le-ltb}
 use Rattle.laws.specs.Swept.{is_at}
-use Rattle.laws.specs.declared.Found.TheVariants as found
+use Rattle.std.specs.Prelude.{Option, Some, None}
 use Rattle.sheet.specs.Sizes.{target_count, texture_count}
 use Rattle.sheet.specs.Rows.{target_row}
 use Rattle.channel.specs.Channel.{family_of, pane_channel, material_channel, address, row_channel, target_channel}
@@ -48,11 +48,11 @@ module _ (s b : List ℕ) (a c : ℕ) where
 -- ---- what a target that addresses a channel reads
 
 -- a code of no family addresses nothing
-other_addresses : (b : List ℕ) (r : Reached) (raw layer : ℕ) → address b r family.Other raw layer ≡ found.Nothing
+other_addresses : (b : List ℕ) (r : Option Reached) (raw layer : ℕ) → address b r family.Other raw layer ≡ None
 unfolding address pane_channel material_channel
-other_addresses b (reached.Pane p) raw layer = refl
-other_addresses b (reached.Material m) raw layer = refl
-other_addresses b reached.Nothing raw layer = refl
+other_addresses b (Some (reached.Pane p)) raw layer = refl
+other_addresses b (Some (reached.Material m)) raw layer = refl
+other_addresses b None raw layer = refl
 
 -- so the family of a target that addresses a channel is one of the eight
 pub addressing_family : (s b : List ℕ) (a c t : ℕ) → is_at (target_channel s b a t) c ≡ true → family_of (target_row s t).code ≡ family.Other → ⊥

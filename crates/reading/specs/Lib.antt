@@ -1,4 +1,5 @@
--- Document 01, "Channels": what a channel reads.
+-- What a channel reads.
+pub mod Active
 pub mod Reading
 pub mod Overrides
 pub mod LastTarget

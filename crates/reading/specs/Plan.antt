@@ -1,8 +1,8 @@
 -- A plan: what of a whole reading doesn't change from frame to frame. The targets of one animation are one run, since the animations of targets
 -- never fall; the plan has the run's ends, and a list beside it the channel of each of its targets. Definitions only.
 use Rattle.std.specs.Prelude.{ℕ, ◌<◌, ◌≤◌, List, ◌≡◌, length, get_or}
-use Rattle.laws.specs.declared.Found.{Found}
-use Rattle.laws.specs.declared.Found.TheVariants as found
+use Rattle.std.specs.Prelude.{Option}
+use Rattle.std.specs.Prelude.{Some, None}
 use Rattle.sheet.specs.Sizes.{target_count}
 use Rattle.channel.specs.Channel.{target_channel}
 use Rattle.channel.specs.Animation.{target_animation}
@@ -12,9 +12,9 @@ use Rattle.reading.specs.declared.plan.Plan.{Plan}
 abbrev pub no_channel : ℕ
 no_channel = 65535
 
-abbrev pub channel_number : Found → ℕ
-channel_number (found.At c) = c
-channel_number found.Nothing = no_channel
+abbrev pub channel_number : Option ℕ → ℕ
+channel_number (Some c) = c
+channel_number None = no_channel
 
 -- every target of the plan's animation is from `from` up to `to`
 pub record Run (s : List ℕ) (p : Plan) : Type 0 where

@@ -1,12 +1,12 @@
--- What each channel reads (document 01, "Channels"): the value of the last target of the active animation that addresses it. Definitions only.
+-- What each channel reads: the value of the last target of the active animation that addresses it. Definitions only.
 use Rattle.std.specs.Prelude.{ℕ, not, cond, List, eqb, ltb, pos, Float}
 use Rattle.std.specs.Float.{binary32}
 use Rattle.std.specs.Float.Ieee.{of_int, to_unsigned}
 use Rattle.laws.specs.Last.{last_below}
 use Rattle.laws.specs.Swept.{is_at}
 use Rattle.laws.specs.Table.{table}
-use Rattle.laws.specs.declared.Found.{Found}
-use Rattle.laws.specs.declared.Found.TheVariants as found
+use Rattle.std.specs.Prelude.{Option}
+use Rattle.std.specs.Prelude.{Some, None}
 use Rattle.float.specs.Numbers.{#, zero', one', ◌⊘◌}
 use Rattle.float.specs.Clamp.{clamp_of}
 use Rattle.float.specs.Whole.{whole_of}
@@ -17,8 +17,7 @@ use Rattle.curve.specs.Curve.{eval_part, eval_part_step_u16}
 use Rattle.channel.specs.Channel.{family_of, target_channel, channel_count}
 use Rattle.channel.specs.declared.Family.{Family}
 use Rattle.channel.specs.declared.Family.TheVariants as family
-use Rattle.reading.specs.declared.Active.{Active}
-use Rattle.reading.specs.declared.Active.TheVariants as active
+use Rattle.reading.specs.Active.{Active}
 use Rattle.reading.specs.declared.Reading.{Reading}
 use Rattle.reading.specs.declared.Reading.TheVariants.{Nothing, Number, Shown, Row, Level}
 
@@ -65,17 +64,17 @@ target_reading s fs vs ss x t = row_reading (texture_count s) fs vs ss x (target
 -- ---- the last-target rule
 
 -- the last target, in sheet order, that addresses channel c while animation a is active
-unfoldable pub last_target : List ℕ → List ℕ → ℕ → ℕ → Found
+unfoldable pub last_target : List ℕ → List ℕ → ℕ → ℕ → Option ℕ
 last_target s b a c = last_below (target_count s) (λ t. is_at (target_channel s b a t) c)
 
-abbrev pub reading_of : List ℕ → List Float → List Float → List Float → Float → Found → Reading
-reading_of s fs vs ss x (found.At t) = target_reading s fs vs ss x t
-reading_of s fs vs ss x found.Nothing = Nothing
+abbrev pub reading_of : List ℕ → List Float → List Float → List Float → Float → Option ℕ → Reading
+reading_of s fs vs ss x (Some t) = target_reading s fs vs ss x t
+reading_of s fs vs ss x None = Nothing
 
 -- what channel c reads; with nothing active, nothing is overridden
 unfoldable pub reading : List ℕ → List ℕ → List Float → List Float → List Float → Active → ℕ → Reading
-reading s b fs vs ss active.Nothing c = Nothing
-reading s b fs vs ss (active.At a x) c = reading_of s fs vs ss x (last_target s b a c)
+reading s b fs vs ss None c = Nothing
+reading s b fs vs ss (Some v) c = reading_of s fs vs ss v.frame (last_target s b v.animation c)
 
 -- ---- a reading as a mark and a number: shown is 1, hidden 0; rows and levels stand as their numbers; 0 where unmarked
 

@@ -17,7 +17,7 @@ pub record Ready (s b : List ℕ) (fs vs ss : List Float) : Type 0 where
   pub book : CheckedBook b
   pub keys : KeysChecked s fs vs ss
 
--- rows 1, 2 and 4 of document 01's table passed
+-- rows 1, 2 and 4 of the table of refusals passed
 pub ready : (s b : List ℕ) (fs vs ss : List Float) → sheet_ok s ≡ true → book_ok b ≡ true → keys_ok s fs vs ss ≡ true → Ready s b fs vs ss
 ready s b fs vs ss p q r = record { sheet = checked s p; book = checked_book b q; keys = keys_checked s fs vs ss r }
 
@@ -26,16 +26,19 @@ pub record ReadyRow (row : Target) (fs vs ss : List Float) : Type 0 where
   pub curve : row.curve ≤ 2
   pub part : ReadablePart row.curve row.first row.count fs vs ss
 
-pub ready_row : {s b : List ℕ} {fs vs ss : List Float} → Ready s b fs vs ss → (t : ℕ) → t < target_count s → ReadyRow (target_row s t) fs vs ss
-ready_row h t l =
-    let k = target_keys h.sheet t l in
+pub keys_row : {s : List ℕ} {fs vs ss : List Float} → Checked s → KeysChecked s fs vs ss → (t : ℕ) → t < target_count s → ReadyRow (target_row s t) fs vs ss
+keys_row w h t l =
+    let k = target_keys w t l in
     record {
-      curve = target_curve_lem h.sheet t l;
+      curve = target_curve_lem w t l;
       part =
           record {
             frames = omega arith;
             values = omega arith;
             slopes = omega arith;
-            ordered = λ n. track_rising h.keys t l n;
+            ordered = λ n. track_rising h t l n;
           };
     }
+
+pub ready_row : {s b : List ℕ} {fs vs ss : List Float} → Ready s b fs vs ss → (t : ℕ) → t < target_count s → ReadyRow (target_row s t) fs vs ss
+ready_row h t l = keys_row h.sheet h.keys t l

@@ -1,25 +1,26 @@
-// What the channels of a book read while an animation is active at a frame (document 01, "Channels").
+// What the channels of a book read while an animation is active at a frame.
 #![tactic(auto)]
 
+mod menu;
 mod plan;
 mod single;
 mod value;
 mod whole;
 
-pub use plan::{MOST_TARGETS, Plan, plan_of};
-pub use single::read_channel;
-pub use value::{number_of, row_reading};
-pub use whole::{read_all, read_row};
+pub use menu::Menu;
+pub use plan::{MOST_TARGETS, NO_CHANNEL, Plan, plan_of};
+pub use value::row_reading;
 
-// The active animation and its frame, or nothing.
-#[derive(Clone, Copy)]
-pub enum Active {
-    Nothing,
-    At(usize, f32),
+// The active animation and its frame.
+#[derive(Clone, Copy, Debug)]
+pub struct At {
+    pub animation: usize,
+    pub frame: f32,
 }
 
 // What one channel reads: no override, a number, shown or hidden, a row of the sheet's texture names, a colour level.
-#[derive(Clone, Copy)]
+// An enum of its own and no option of one: hosts and the command line know these five cases.
+#[derive(Clone, Copy, Debug)]
 pub enum Reading {
     Nothing,
     Number(f32),

@@ -4,47 +4,50 @@ ghost use Rattle.laws.specs.Parted.{Parted};
 ghost use Rattle.sheet.specs.Sizes.{target_count};
 ghost use Rattle.sheet.specs.Checked.{Checked};
 ghost use Rattle.book.specs.Checked.{CheckedBook};
-ghost use Rattle.channel.specs.Held.{Searched};
 ghost use Rattle.channel.specs.Animation.{target_animation};
 ghost use Rattle.reading.specs.Plan.{no_channel, channel_number, Run, Numbered, Planned};
 
-use channel::{held_for, material_index, none_held, pane_index, row_channel};
-use laws::Found;
+use crate::Menu;
+use book::Book;
+use channel::{Names, row_channel};
+use sheet::Sheet;
 
 // How many targets a sheet has at most: a plan's channels are lent as so many numbers.
 pub const MOST_TARGETS: usize = 256;
 
-// The number that stands for no channel.
+// The number that stands for no channel: 16 bits a target, half of what an option takes, and a row of a plan reads each.
 pub const NO_CHANNEL: u16 = 65535;
 
 // From so many contents on an index of names pays, by measurement.
 const MANY: usize = 12;
 
 // The targets of an animation are those from `from` up to `to`. The channel of each is in a lent array, at the target's number.
-#[derive(Clone, Copy)]
+#[derive(Clone, Copy, Debug)]
 pub struct Plan {
     pub animation: usize,
     pub from: usize,
     pub to: usize,
 }
 
-fn target_animation(s: &[u8], t: usize) -> usize
-    requires { Checked s.now × (t < target_count s.now) }
-    ensures { result ≡ target_animation s.now t }
+#[tactic(auto, using(sheet::specs::Checked::target_content_lem), unfolding(channel::specs::Animation::target_animation))]
+fn target_animation(sheet: &Sheet<'_>, t: usize) -> usize
+    requires { t < target_count sheet.now.bytes.now }
+    ensures { result ≡ target_animation sheet.now.bytes.now t }
 {
-    sheet::content_row(s, sheet::target_row(s, t).content).animation
+    sheet.content(sheet.target(t).content).animation
 }
 
-// How many targets belong to animations below a, by halves: the animations of targets never fall.
-fn targets_below(s: &[u8], a: usize) -> usize
-    requires { Checked s.now }
-    ensures { Parted (target_animation s.now) (target_count s.now) a result result }
+// How many targets belong to animations below a: the animations of targets never fall. By halves, written out: `partition_point` wants a slice of
+// rows, and a sheet's are bytes.
+#[tactic(auto, using(crate::proofs::Planning::animations_climb, laws::specs::Parted::parted_none, laws::specs::Parted::parted_low, laws::specs::Parted::parted_high, laws::specs::Parted::parted_met))]
+fn targets_below(sheet: &Sheet<'_>, a: usize) -> usize
+    ensures { Parted (target_animation sheet.now.bytes.now) (target_count sheet.now.bytes.now) a result result }
 {
     let mut lo = 0;
-    let mut hi = sheet::target_count(s);
+    let mut hi = sheet.target_count();
     while lo < hi {
         let mid = lo + (hi - lo) / 2;
-        if target_animation(s, mid) < a {
+        if target_animation(sheet, mid) < a {
             lo = mid + 1;
         } else {
             hi = mid;
@@ -54,11 +57,12 @@ fn targets_below(s: &[u8], a: usize) -> usize
 }
 
 // The run of targets of animation a; of none where there is no such animation.
-fn run_of(s: &[u8], a: usize) -> Plan
-    requires { Checked s.now }
-    ensures { (result.animation ≡ a) × Run s.now result }
+#[tactic(auto, using(crate::proofs::Planning::run_none, crate::proofs::Planning::run_between))]
+fn run_of(sheet: &Sheet<'_>, a: usize) -> Plan
+    ensures animation { result.animation ≡ a }
+    ensures run { Run sheet.now.bytes.now result }
 {
-    if a >= sheet::animation_count(s) {
+    if a >= sheet.animation_count() {
         return Plan {
             animation: a,
             from: 0,
@@ -67,70 +71,75 @@ fn run_of(s: &[u8], a: usize) -> Plan
     }
     Plan {
         animation: a,
-        from: targets_below(s, a),
-        to: targets_below(s, a + 1),
+        from: targets_below(sheet, a),
+        to: targets_below(sheet, a + 1),
     }
 }
 
-fn channel_number(f: Found) -> u16
-    requires { channel_number f ≤ no_channel }
-    ensures { result ≡ channel_number f }
+fn channel_number(channel: Option<usize>) -> u16
+    requires { channel_number channel ≤ no_channel }
+    ensures { result ≡ channel_number channel }
 {
-    match f {
-        Found::At(c) => c as u16,
-        Found::Nothing => NO_CHANNEL,
+    match channel {
+        Some(c) => c as u16,
+        None => NO_CHANNEL,
     }
 }
 
 // Whether the run has so many contents that an index of the book's names pays.
-fn many_contents(s: &[u8], p: Plan) -> bool
-    requires { Checked s.now × Run s.now p }
+#[tactic(auto, using(sheet::specs::Checked::target_content_lem))]
+fn many_contents(sheet: &Sheet<'_>, p: Plan) -> bool
+    requires { Run sheet.now.bytes.now p }
 {
-    if p.from >= p.to {
-        return false;
-    }
-    let first = sheet::target_row(s, p.from).content;
-    let last = sheet::target_row(s, p.to - 1).content;
-    first + MANY <= last
+    p.from < p.to && sheet.target(p.from).content + MANY <= sheet.target(p.to - 1).content
 }
 
-// The channel of each target of the run. Contents of targets never fall, so each name is searched once.
-fn number_channels(
-    s: &[u8],
-    b: &[u8],
-    panes: &[u8],
-    materials: &[u8],
-    p: Plan,
-    channels: &mut [u16],
-)
-    requires { Checked s.now × (Searched b.now panes.now materials.now × (Run s.now p × (target_count s.now ≤ length channels.old))) }
-    ensures { Numbered s.now b.now p channels.new p.to }
+// The channel of each target of the run.
+fn number_channels(sheet: &Sheet<'_>, names: &Names<'_>, p: Plan, channels: &mut [u16])
+    requires run { Run sheet.now.bytes.now p }
+    requires room { target_count sheet.now.bytes.now ≤ length channels.old }
+    ensures { Numbered sheet.now.bytes.now names.now.book.bytes.now p channels.new p.to }
 {
-    let a = p.animation;
-    let to = p.to;
-    let base = sheet::targets_at(s);
-    let mut held = none_held();
-    let mut t = p.from;
-    while t < to {
-        let row = sheet::target_at(s, base + t * sheet::TARGET_BYTES);
-        if row.content != held.content {
-            held = held_for(s, b, panes, materials, a, row.content);
-        }
-        let reached = held.reached;
-        channels[t] = channel_number(row_channel(b, reached, row));
-        t += 1;
+    let mut held = None;
+    for t in p.from..p.to {
+        let row = sheet.target(t);
+        let now = names.held_for(sheet, p.animation, row.content, held);
+        channels[t] = channel_number(row_channel(&names.book, now.reached, row));
+        held = Some(now);
     }
 }
 
 // The plan of animation a.
+fn plan_in(sheet: &Sheet<'_>, book: Book<'_>, a: usize, channels: &mut [u16]) -> Plan
+    requires { target_count sheet.now.bytes.now ≤ length channels.old }
+    ensures animation { result.animation ≡ a }
+    ensures planned { Planned sheet.now.bytes.now book.entry.bytes.now result channels.new }
+{
+    let p = run_of(sheet, a);
+    let many = many_contents(sheet, p);
+    number_channels(sheet, &Names::new(book, many, many), p, channels);
+    p
+}
+
+impl<'a> Menu<'a> {
+    ghost use Rattle.std.specs.Prelude.{◌≡◌, ◌≤◌, length};
+    ghost use Rattle.sheet.specs.Sizes.{target_count};
+    ghost use Rattle.reading.specs.Plan.{Planned};
+
+    // The plan of animation a.
+    pub fn plan_of(&self, a: usize, channels: &mut [u16]) -> Plan
+        requires { target_count self.now.ready.sheet.bytes.now ≤ length channels.old }
+        ensures animation { result.animation ≡ a }
+        ensures planned { Planned self.now.ready.sheet.bytes.now self.now.book.bytes.now result channels.new }
+    {
+        plan_in(&self.ready.sheet, self.book, a, channels)
+    }
+}
+
+// The same over lent bytes.
 pub fn plan_of(s: &[u8], b: &[u8], a: usize, channels: &mut [u16]) -> Plan
     requires { Checked s.now × (CheckedBook b.now × (target_count s.now ≤ length channels.old)) }
     ensures { (result.animation ≡ a) × Planned s.now b.now result channels.new }
 {
-    let p = run_of(s, a);
-    let many = many_contents(s, p);
-    let panes = pane_index(b, many);
-    let materials = material_index(b, many);
-    number_channels(s, b, &panes, &materials, p, channels);
-    p
+    plan_in(&Sheet { bytes: s }, Book { bytes: b }, a, channels)
 }

@@ -1,58 +1,70 @@
 // The reading of one channel: the last target that addresses it, from the last target back.
-ghost use Rattle.std.specs.Prelude.{◌≡◌, ◌<◌};
-ghost use Rattle.sheet.specs.Checked.{Checked};
-ghost use Rattle.book.specs.Checked.{CheckedBook};
-ghost use Rattle.channel.specs.Channel.{channel_count};
-ghost use Rattle.reading.specs.Reading.{last_target, reading};
-ghost use Rattle.reading.specs.Ready.{Ready};
-
 use crate::value::row_reading;
-use crate::{Active, Reading};
-use channel::{hits, place_of};
-use laws::Found;
+use crate::{At, Menu, Reading};
+use channel::{Place, hits, place_of};
 
-fn last_target(s: &[u8], b: &[u8], a: usize, c: usize) -> Found
-    requires { Checked s.now × (CheckedBook b.now × (c < channel_count b.now)) }
-    ensures { result ≡ last_target s.now b.now a c }
-{
-    let place = place_of(b, c);
-    let base = sheet::targets_at(s);
-    let mut i = sheet::target_count(s);
-    while 0 < i {
-        let t = i - 1;
-        if hits(
-            s,
-            b,
+impl<'a> Menu<'a> {
+    ghost use Rattle.std.specs.Prelude.{◌≡◌, ◌<◌};
+    ghost use Rattle.laws.specs.Swept.{is_at};
+    ghost use Rattle.sheet.specs.Sizes.{target_count};
+    ghost use Rattle.channel.specs.Channel.{channel_count, target_channel};
+    ghost use Rattle.channel.specs.Place.{place_of};
+    ghost use Rattle.reading.specs.Reading.{last_target, reading};
+
+    // Whether target t addresses channel c, which stands at a place, while animation a is active.
+    #[tactic(auto, using(channel::proofs::Places::place_hit, channel::specs::Place::placed, sheet::specs::Checked::target_content_lem))]
+    fn addresses(&self, a: usize, c: usize, place: Place, t: usize) -> bool
+        requires channel { c < channel_count self.now.book.bytes.now }
+        requires place { place ≡ place_of self.now.book.bytes.now c }
+        requires target { t < target_count self.now.ready.sheet.bytes.now }
+        ensures { result ≡ is_at (target_channel self.now.ready.sheet.bytes.now self.now.book.bytes.now a t) c }
+    {
+        hits(
+            &self.ready.sheet,
+            &self.book,
             a,
             place,
-            sheet::target_at(s, base + t * sheet::TARGET_BYTES),
-        ) {
-            return Found::At(t);
-        }
-        i = t;
+            self.ready.sheet.target(t),
+        )
     }
-    Found::Nothing
-}
 
-pub fn read_channel(
-    s: &[u8],
-    b: &[u8],
-    frames: &[f32],
-    values: &[f32],
-    slopes: &[f32],
-    active: Active,
-    c: usize,
-) -> Reading
-    requires { Ready s.now b.now frames.now values.now slopes.now × (c < channel_count b.now) }
-    ensures { result ≡ reading s.now b.now frames.now values.now slopes.now active c }
-{
-    let Active::At(a, x) = active else {
-        return Reading::Nothing;
-    };
-    let Found::At(t) = last_target(s, b, a, c) else {
-        return Reading::Nothing;
-    };
-    let row = sheet::target_row(s, t);
-    let textures = sheet::texture_count(s);
-    row_reading(frames, values, slopes, x, row, textures)
+    // The last target that does. Counted down by hand: of `(0..n).rev().find(..)` the proof didn't close.
+    fn last_target(&self, a: usize, c: usize) -> Option<usize>
+        requires { c < channel_count self.now.book.bytes.now }
+        ensures { result ≡ last_target self.now.ready.sheet.bytes.now self.now.book.bytes.now a c }
+    {
+        let place = place_of(self.book.bytes, c);
+        let mut end = self.ready.sheet.target_count();
+        while 0 < end {
+            end -= 1;
+            if self.addresses(a, c, place, end) {
+                return Some(end);
+            }
+        }
+        None
+    }
+
+    #[tactic(auto, using(crate::specs::Ready::keys_row, crate::proofs::LastTarget::decides_within), unfolding(crate::specs::Reading::reading, crate::specs::Reading::target_reading))]
+    pub fn read_channel(&self, active: Option<At>, c: usize) -> Reading
+        requires { c < channel_count self.now.book.bytes.now }
+        ensures { result ≡ reading self.now.ready.sheet.bytes.now self.now.book.bytes.now self.now.ready.keys.frames.now self.now.ready.keys.values.now self.now.ready.keys.slopes.now active c }
+    {
+        let Some(at) = active else {
+            return Reading::Nothing;
+        };
+        let Some(t) = self.last_target(at.animation, c) else {
+            return Reading::Nothing;
+        };
+        let sheet = self.ready.sheet;
+        let keys = self.ready.keys;
+        let textures = sheet.texture_count();
+        row_reading(
+            keys.frames,
+            keys.values,
+            keys.slopes,
+            at.frame,
+            sheet.target(t),
+            textures,
+        )
+    }
 }

@@ -5,10 +5,11 @@ ghost use Rattle.reading.specs.Reading.{level_of, row_of, read_as, value_at, row
 ghost use Rattle.reading.specs.Ready.{ReadyRow};
 
 use crate::Reading;
-use channel::{Family, family_of};
+use channel::Family;
 use sheet::Target;
 
 // A colour's level, as the Rust: round, clamp, cast.
+#[tactic(auto, unfolding(crate::specs::Reading::level_of))]
 fn level_of(v: f32) -> u8
     ensures { result ≡ level_of v }
 {
@@ -16,6 +17,7 @@ fn level_of(v: f32) -> u8
 }
 
 // A texture index from `textures` up leaves its slot with no override.
+#[tactic(auto, unfolding(crate::specs::Reading::row_of))]
 fn row_of(n: u16, textures: usize) -> Reading
     ensures { result ≡ row_of n textures }
 {
@@ -31,19 +33,19 @@ fn read_as(f: Family, v: f32, textures: usize) -> Reading
     ensures { result ≡ read_as f v (to_unsigned 16 v) textures }
 {
     match f {
-        Family::PaneSrt => Reading::Number(v),
+        Family::PaneSrt | Family::TextureSrt | Family::IndirectSrt | Family::AlphaCompare => {
+            Reading::Number(v)
+        }
         Family::Visibility => Reading::Shown(float::cut_u16(v) != 0),
         Family::VertexColor => Reading::Number(v / 255.0),
-        Family::TextureSrt => Reading::Number(v),
         Family::TexturePattern => row_of(float::cut_u16(v), textures),
-        Family::IndirectSrt => Reading::Number(v),
-        Family::AlphaCompare => Reading::Number(v),
         Family::MaterialColor => Reading::Level(level_of(v)),
         Family::Other => Reading::Nothing,
     }
 }
 
 // The value of a target's curve at frame x.
+#[tactic(auto, unfolding(crate::specs::Reading::value_at))]
 pub fn row_value(frames: &[f32], values: &[f32], slopes: &[f32], x: f32, row: Target) -> f32
     requires { ReadyRow row frames.now values.now slopes.now }
     ensures { result ≡ value_at frames.now values.now slopes.now x row }
@@ -53,6 +55,7 @@ pub fn row_value(frames: &[f32], values: &[f32], slopes: &[f32], x: f32, row: Ta
 }
 
 // What a target's row reads at frame x.
+#[tactic(auto, using(crate::proofs::Pass::read_is))]
 pub fn row_reading(
     frames: &[f32],
     values: &[f32],
@@ -65,67 +68,53 @@ pub fn row_reading(
     ensures { result ≡ row_reading textures frames.now values.now slopes.now x row }
 {
     let v = row_value(frames, values, slopes, x, row);
-    read_as(family_of(row.code), v, textures)
+    read_as(Family::from(row.code), v, textures)
 }
 
-fn row_mark(n: u16, textures: usize) -> u8
-    ensures { result ≡ mark_of (row_of n textures) }
-{
-    if (n as usize) < textures { 1 } else { 0 }
-}
-
-fn row_number(n: u16, textures: usize) -> f32
-    ensures { result ≡ number_of (row_of n textures) }
-{
-    if (n as usize) < textures {
-        n as f32
-    } else {
-        0.0
-    }
-}
-
-// The mark of what a family reads, with no reading between: a whole reading has hundreds, and an enum goes through memory.
+// The mark of what a family reads, with no reading between: a whole reading has hundreds, and an enum goes through memory. So this and the number
+// beside it are two functions, and no method of a reading.
+#[tactic(auto, unfolding(crate::specs::Reading::row_of))]
 pub fn mark_as(f: Family, v: f32, textures: usize) -> u8
     ensures { result ≡ mark_of (read_as f v (to_unsigned 16 v) textures) }
 {
     match f {
-        Family::PaneSrt => 1,
-        Family::Visibility => 1,
-        Family::VertexColor => 1,
-        Family::TextureSrt => 1,
-        Family::TexturePattern => row_mark(float::cut_u16(v), textures),
-        Family::IndirectSrt => 1,
-        Family::AlphaCompare => 1,
-        Family::MaterialColor => 1,
+        Family::TexturePattern => u8::from((float::cut_u16(v) as usize) < textures),
         Family::Other => 0,
+        _ => 1,
     }
 }
 
 // Its number likewise.
+#[tactic(auto, unfolding(crate::specs::Reading::row_of))]
 pub fn number_as(f: Family, v: f32, textures: usize) -> f32
     ensures { result ≡ number_of (read_as f v (to_unsigned 16 v) textures) }
 {
     match f {
-        Family::PaneSrt => v,
-        Family::Visibility => { if float::cut_u16(v) != 0 { 1.0 } else { 0.0 } }
+        Family::PaneSrt | Family::TextureSrt | Family::IndirectSrt | Family::AlphaCompare => v,
+        Family::Visibility if float::cut_u16(v) != 0 => 1.0,
         Family::VertexColor => v / 255.0,
-        Family::TextureSrt => v,
-        Family::TexturePattern => row_number(float::cut_u16(v), textures),
-        Family::IndirectSrt => v,
-        Family::AlphaCompare => v,
+        Family::TexturePattern if (float::cut_u16(v) as usize) < textures => {
+            float::cut_u16(v) as f32
+        }
         Family::MaterialColor => level_of(v) as f32,
-        Family::Other => 0.0,
+        _ => 0.0,
     }
 }
 
-pub fn number_of(r: Reading) -> f32
-    ensures { result ≡ number_of r }
-{
-    match r {
-        Reading::Nothing => 0.0,
-        Reading::Number(v) => v,
-        Reading::Shown(b) => { if b { 1.0 } else { 0.0 } }
-        Reading::Row(k) => k as f32,
-        Reading::Level(l) => l as f32,
+// A reading as a number: shown is 1, hidden 0; a row and a level stand as their numbers, and nothing as 0.
+impl From<Reading> for f32 {
+    ghost use Rattle.std.specs.Prelude.{◌≡◌};
+    ghost use Rattle.reading.specs.Reading.{number_of};
+
+    ghost from_gives = { λ r x. x ≡ number_of r };
+
+    fn from(r: Reading) -> f32 {
+        match r {
+            Reading::Nothing => 0.0,
+            Reading::Number(v) => v,
+            Reading::Shown(b) => { if b { 1.0 } else { 0.0 } }
+            Reading::Row(k) => k as f32,
+            Reading::Level(l) => l as f32,
+        }
     }
 }

@@ -1,38 +1,21 @@
 // The whole reading: a mark and a number for each channel of the book, by a plan and one pass over its targets.
-ghost use Rattle.std.specs.Prelude.{◌≡◌, ◌<◌, length, set};
+ghost use Rattle.std.specs.Prelude.{◌≡◌, ◌<◌, length, set, replicate};
 ghost use Rattle.std.specs.Float.Ieee.{to_unsigned};
-ghost use Rattle.laws.specs.Table.{table};
-ghost use Rattle.channel.specs.Channel.{channel_count};
-ghost use Rattle.reading.specs.Reading.{read_as, mark_of, number_of, marks_of, numbers_of, no_mark, no_number};
-ghost use Rattle.reading.specs.Ready.{Ready};
-ghost use Rattle.reading.specs.Plan.{Planned};
-ghost use Rattle.reading.specs.declared.Active.TheVariants as active;
+ghost use Rattle.float.specs.Numbers.{zero'};
+ghost use Rattle.reading.specs.Reading.{read_as, mark_of, number_of};
 
-use crate::Active;
-use crate::plan::{MOST_TARGETS, NO_CHANNEL, Plan, plan_of};
+use crate::plan::{MOST_TARGETS, NO_CHANNEL, Plan};
 use crate::value::{mark_as, number_as, row_value};
-use channel::{Family, family_of};
+use crate::{At, Menu};
+use channel::Family;
 
-fn clear_marks(out: &mut [u8])
-    ensures { out.new ≡ table (length out.old) no_mark }
+// Tables in which nothing is overridden.
+fn clear(marks: &mut [u8], numbers: &mut [f32])
+    ensures marks_after { marks.new ≡ replicate (length marks.old) 0 }
+    ensures numbers_after { numbers.new ≡ replicate (length numbers.old) zero' }
 {
-    let n = out.len();
-    let mut i = 0;
-    while i < n {
-        out[i] = 0;
-        i += 1;
-    }
-}
-
-fn clear_numbers(out: &mut [f32])
-    ensures { out.new ≡ table (length out.old) no_number }
-{
-    let n = out.len();
-    let mut i = 0;
-    while i < n {
-        out[i] = 0.0;
-        i += 1;
-    }
+    marks.fill(0);
+    numbers.fill(0.0);
 }
 
 // Both tables are stored, so that a later target that reads nothing takes an earlier override away.
@@ -45,107 +28,71 @@ fn put(marks: &mut [u8], numbers: &mut [f32], c: usize, f: Family, v: f32, textu
     numbers[c] = number_as(f, v, textures);
 }
 
-// The pass over the planned targets, over cleared tables, at frame x. Only the contract speaks of the book.
-fn sweep(
-    s: &[u8],
-    b: &[u8],
-    p: Plan,
-    channels: &[u16],
-    frames: &[f32],
-    values: &[f32],
-    slopes: &[f32],
-    x: f32,
-    marks: &mut [u8],
-    numbers: &mut [f32],
-)
-    requires ready { Ready s.now b.now frames.now values.now slopes.now × Planned s.now b.now p channels.now }
-    requires marks_value { (marks.old ≡ table (channel_count b.now) no_mark) × (numbers.old ≡ table (channel_count b.now) no_number) }
-    ensures marks_after { marks.new ≡ marks_of s.now b.now frames.now values.now slopes.now (active.At p.animation x) }
-    ensures numbers_after { numbers.new ≡ numbers_of s.now b.now frames.now values.now slopes.now (active.At p.animation x) }
-{
-    let base = sheet::targets_at(s);
-    let textures = sheet::texture_count(s);
-    let mut next = p.from;
-    while next < p.to {
-        let t = next;
-        next += 1;
-        let c = channels[t];
-        if c == NO_CHANNEL {
-            continue;
+impl<'a> Menu<'a> {
+    ghost use Rattle.std.specs.Prelude.{◌≡◌, length, replicate};
+    ghost use Rattle.float.specs.Numbers.{zero'};
+    ghost use Rattle.channel.specs.Channel.{channel_count};
+    ghost use Rattle.reading.specs.Reading.{marks_of, numbers_of};
+    ghost use Rattle.reading.specs.Active.{active_at};
+    ghost use Rattle.reading.specs.Plan.{Planned};
+
+    // The pass over the planned targets, over cleared tables, at frame x. Only the contract speaks of the book. The rows' place is summed once.
+    fn sweep(&self, p: Plan, channels: &[u16], x: f32, marks: &mut [u8], numbers: &mut [f32])
+        requires planned { Planned self.now.ready.sheet.bytes.now self.now.book.bytes.now p channels.now }
+        requires marks_value { marks.old ≡ replicate (channel_count self.now.book.bytes.now) 0 }
+        requires numbers_value { numbers.old ≡ replicate (channel_count self.now.book.bytes.now) zero' }
+        ensures marks_after { marks.new ≡ marks_of self.now.ready.sheet.bytes.now self.now.book.bytes.now self.now.ready.keys.frames.now self.now.ready.keys.values.now self.now.ready.keys.slopes.now (active_at p.animation x) }
+        ensures numbers_after { numbers.new ≡ numbers_of self.now.ready.sheet.bytes.now self.now.book.bytes.now self.now.ready.keys.frames.now self.now.ready.keys.values.now self.now.ready.keys.slopes.now (active_at p.animation x) }
+    {
+        let s = self.ready.sheet.bytes;
+        let keys = self.ready.keys;
+        let base = sheet::targets_at(s);
+        let textures = sheet::texture_count(s);
+        for t in p.from..p.to {
+            let c = channels[t];
+            if c == NO_CHANNEL {
+                continue;
+            }
+            let row = sheet::target_at(s, base + t * sheet::TARGET_BYTES);
+            let v = row_value(keys.frames, keys.values, keys.slopes, x, row);
+            put(
+                marks,
+                numbers,
+                c as usize,
+                Family::from(row.code),
+                v,
+                textures,
+            );
         }
-        let row = sheet::target_at(s, base + t * sheet::TARGET_BYTES);
-        let v = row_value(frames, values, slopes, x, row);
-        put(marks, numbers, c as usize, family_of(row.code), v, textures);
     }
-}
 
-// The row of one frame: every channel of the book at frame x, by a plan. Only the contract speaks of the book.
-pub fn read_row(
-    s: &[u8],
-    b: &[u8],
-    p: Plan,
-    channels: &[u16],
-    frames: &[f32],
-    values: &[f32],
-    slopes: &[f32],
-    x: f32,
-    marks: &mut [u8],
-    numbers: &mut [f32],
-)
-    requires ready { Ready s.now b.now frames.now values.now slopes.now × Planned s.now b.now p channels.now }
-    requires marks_len { (length marks.old ≡ channel_count b.now) × (length numbers.old ≡ channel_count b.now) }
-    ensures marks_after { marks.new ≡ marks_of s.now b.now frames.now values.now slopes.now (active.At p.animation x) }
-    ensures numbers_after { numbers.new ≡ numbers_of s.now b.now frames.now values.now slopes.now (active.At p.animation x) }
-{
-    clear_marks(marks);
-    clear_numbers(numbers);
-    sweep(s, b, p, channels, frames, values, slopes, x, marks, numbers);
-}
+    // The row of one frame: every channel of the book at frame x, by a plan.
+    pub fn read_row(&self, p: Plan, channels: &[u16], x: f32, marks: &mut [u8], numbers: &mut [f32])
+        requires planned { Planned self.now.ready.sheet.bytes.now self.now.book.bytes.now p channels.now }
+        requires marks_len { length marks.old ≡ channel_count self.now.book.bytes.now }
+        requires numbers_len { length numbers.old ≡ channel_count self.now.book.bytes.now }
+        ensures marks_after { marks.new ≡ marks_of self.now.ready.sheet.bytes.now self.now.book.bytes.now self.now.ready.keys.frames.now self.now.ready.keys.values.now self.now.ready.keys.slopes.now (active_at p.animation x) }
+        ensures numbers_after { numbers.new ≡ numbers_of self.now.ready.sheet.bytes.now self.now.book.bytes.now self.now.ready.keys.frames.now self.now.ready.keys.values.now self.now.ready.keys.slopes.now (active_at p.animation x) }
+    {
+        clear(marks, numbers);
+        self.sweep(p, channels, x, marks, numbers);
+    }
 
-// A plan and its one row.
-fn read_active(
-    s: &[u8],
-    b: &[u8],
-    frames: &[f32],
-    values: &[f32],
-    slopes: &[f32],
-    a: usize,
-    x: f32,
-    marks: &mut [u8],
-    numbers: &mut [f32],
-)
-    requires ready { Ready s.now b.now frames.now values.now slopes.now }
-    requires marks_len { (length marks.old ≡ channel_count b.now) × (length numbers.old ≡ channel_count b.now) }
-    ensures marks_after { marks.new ≡ marks_of s.now b.now frames.now values.now slopes.now (active.At a x) }
-    ensures numbers_after { numbers.new ≡ numbers_of s.now b.now frames.now values.now slopes.now (active.At a x) }
-{
-    let mut channels = [0u16; MOST_TARGETS];
-    let p = plan_of(s, b, a, &mut channels);
-    read_row(
-        s, b, p, &channels, frames, values, slopes, x, marks, numbers,
-    );
-}
-
-// The Rust's AnimationState::evaluate, over every channel of the book.
-pub fn read_all(
-    s: &[u8],
-    b: &[u8],
-    frames: &[f32],
-    values: &[f32],
-    slopes: &[f32],
-    active: Active,
-    marks: &mut [u8],
-    numbers: &mut [f32],
-)
-    requires ready { Ready s.now b.now frames.now values.now slopes.now }
-    requires marks_len { (length marks.old ≡ channel_count b.now) × (length numbers.old ≡ channel_count b.now) }
-    ensures marks_after { marks.new ≡ marks_of s.now b.now frames.now values.now slopes.now active }
-    ensures numbers_after { numbers.new ≡ numbers_of s.now b.now frames.now values.now slopes.now active }
-{
-    let Active::At(a, x) = active else {
-        clear_marks(marks);
-        clear_numbers(numbers);
-        return;
-    };
-    read_active(s, b, frames, values, slopes, a, x, marks, numbers);
+    // The Rust's AnimationState::evaluate, over every channel of the book: with something active, a plan and its one row.
+    #[tactic(auto, using(crate::proofs::Pass::nothing_marked, crate::proofs::Pass::nothing_numbered))]
+    pub fn read_all(&self, active: Option<At>, marks: &mut [u8], numbers: &mut [f32])
+        requires marks_len { length marks.old ≡ channel_count self.now.book.bytes.now }
+        requires numbers_len { length numbers.old ≡ channel_count self.now.book.bytes.now }
+        ensures marks_after { marks.new ≡ marks_of self.now.ready.sheet.bytes.now self.now.book.bytes.now self.now.ready.keys.frames.now self.now.ready.keys.values.now self.now.ready.keys.slopes.now active }
+        ensures numbers_after { numbers.new ≡ numbers_of self.now.ready.sheet.bytes.now self.now.book.bytes.now self.now.ready.keys.frames.now self.now.ready.keys.values.now self.now.ready.keys.slopes.now active }
+    {
+        match active {
+            Some(at) => {
+                let mut channels = [0u16; MOST_TARGETS];
+                let p = self.plan_of(at.animation, &mut channels);
+                self.read_row(p, &channels, at.frame, marks, numbers);
+            }
+            None => clear(marks, numbers),
+        }
+    }
 }

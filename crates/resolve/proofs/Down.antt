@@ -9,18 +9,24 @@ use lib.Dec.{eqb}
 use lib.ListN.{length, get_or, set}
 use lib.Seq.{get_or-set_other}
 use lib.Ieee.{Float, nan}
+use Rattle.std.specs.Int.{from_bool}
 use Rattle.laws.specs.Grown.{grow, grow_ext, Grown, grown_none, grown_more, grown_at, grown_all}
 use Rattle.laws.specs.Table.{table_at}
 use Rattle.book.specs.Sizes.{pane_count, no_parent}
 use Rattle.book.specs.Rows.{pane_row}
 use Rattle.book.specs.Checked.{CheckedBook, pane_parent_lem}
 use Rattle.book.specs.declared.rows.Pane.{Pane}
-use Rattle.reading.specs.declared.Active.{Active}
+use Rattle.reading.specs.Active.{Active}
 use Rattle.resolve.specs.Resolve.{visible_of, alpha_of}
 use Rattle.resolve.specs.Own.{bit_of, own_bit, own_bits, own_alphas}
 use Rattle.resolve.specs.Cascade.{root, under, above, row_from, shown_bit, alpha_in, influence_in, cascade}
 use Rattle.resolve.specs.Tables.{shown_of, number_in, read_above}
 use Rattle.resolve.specs.declared.Cascaded.{Cascaded}
+
+-- a bool as a byte is its bit
+pub byte_is : (b : Bool) → from_bool b ≡ bit_of b
+byte_is true = refl
+byte_is false = refl
 
 back : (b : Bool) → not (eqb (bit_of b) 0) ≡ b
 back true = refl

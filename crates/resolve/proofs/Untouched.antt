@@ -1,5 +1,4 @@
--- An edit reaches only its own channel, in the cascade: a row depends on the visible and the alpha of its pane and of those above it (document 01,
--- "Channels"). Of two sets of keys, the first is before an edit and the second after it. Assumes nothing.
+-- An edit reaches only its own channel, in the cascade: a row depends on the visible and the alpha of its pane and of those above it. Of two sets of keys, the first is before an edit and the second after it. Assumes nothing.
 use Rattle.std.specs.Prelude.{ℕ, zero, suc, ◌<◌, Bool, cond, ◌&&◌, ◌||◌, List, ◌≡◌, get_or, Float}
 use Rattle.std.proofs.Math.Bool.{true, false}
 use Rattle.std.proofs.lemmas.Bool.{false≢true}
@@ -15,7 +14,7 @@ use Rattle.book.specs.Sizes.{pane_count, no_parent}
 use Rattle.book.specs.Rows.{pane_row}
 use Rattle.book.specs.Checked.{CheckedBook, pane_parent_lem}
 use Rattle.channel.specs.Channel.{visible_channel, alpha_channel, of_pane}
-use Rattle.reading.specs.declared.Active.{Active}
+use Rattle.reading.specs.Active.{Active}
 use Rattle.resolve.specs.Resolve.{visible_of, alpha_of}
 use Rattle.resolve.specs.Cascade.{root, under, above, row_from, cascade}
 use Rattle.resolve.specs.Follow.{Handed, fixed, handed_under, handed_above, handed_from, handed, follows}

@@ -1,4 +1,4 @@
--- The cascade (document 01, "Channels"; the Rust's inner `update`): visible, alpha and influence over all rows by parent. Definitions only.
+-- The cascade (the Rust's inner `update`): visible, alpha and influence over all rows by parent. Definitions only.
 use Rattle.std.specs.Prelude.{ℕ, Bool, true, ◌&&◌, cond, List, map, eqb, get_or, Float}
 use Rattle.laws.specs.Grown.{grow}
 use Rattle.float.specs.Numbers.{one', ◌⊗◌}
@@ -6,7 +6,7 @@ use Rattle.book.specs.Sizes.{pane_count, no_parent}
 use Rattle.book.specs.Rows.{pane_row}
 use Rattle.resolve.specs.Resolve.{visible_of, alpha_of}
 use Rattle.resolve.specs.Own.{bit_of}
-use Rattle.reading.specs.declared.Active.{Active}
+use Rattle.reading.specs.Active.{Active}
 use Rattle.resolve.specs.declared.Cascaded.{Cascaded}
 
 -- a root is given true and 1.0

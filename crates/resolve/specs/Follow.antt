@@ -1,4 +1,4 @@
--- Which rows of the cascade can change where some panes' own visible or alpha do (document 01, "Channels": the cascade): each row by the row above it.
+-- Which rows of the cascade can change where some panes' own visible or alpha do (the cascade): each row by the row above it.
 -- Definitions only; that no other row changes is shown in proofs/Untouched.
 use Rattle.std.specs.Prelude.{ℕ, Bool, false, ◌&&◌, ◌||◌, cond, List, eqb, get_or}
 use Rattle.laws.specs.Grown.{grow}

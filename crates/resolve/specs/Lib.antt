@@ -1,5 +1,6 @@
--- Document 01, "Channels": resolving and the cascade.
+-- resolving and the cascade.
 pub mod Resolve
+pub mod Row
 pub mod Own
 pub mod Cascade
 pub mod Tables

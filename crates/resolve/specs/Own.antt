@@ -4,8 +4,8 @@ use Rattle.std.proofs.Common.{sym, ◌∙◌, ap, eqb-true}
 use Rattle.laws.specs.Last.{last_same}
 use Rattle.laws.specs.Swept.{is_at, last_to}
 use Rattle.laws.specs.Table.{table}
-use Rattle.laws.specs.declared.Found.{Found}
-use Rattle.laws.specs.declared.Found.TheVariants as found
+use Rattle.std.specs.Prelude.{Option}
+use Rattle.std.specs.Prelude.{Some, None}
 use Rattle.sheet.specs.Sizes.{target_count}
 use Rattle.sheet.specs.Rows.{target_row}
 use Rattle.sheet.specs.declared.rows.Target.{Target}
@@ -17,7 +17,7 @@ use Rattle.channel.proofs.Places.{pane_hit}
 use Rattle.channel.specs.declared.Reached.{Reached}
 use Rattle.channel.specs.declared.Reached.TheVariants as reached
 use Rattle.reading.specs.Reading.{last_target}
-use Rattle.reading.specs.declared.Active.{Active}
+use Rattle.reading.specs.Active.{Active}
 use Rattle.resolve.specs.Resolve.{visible_of, alpha_of}
 
 -- shown is 1, hidden 0
@@ -42,22 +42,22 @@ module _ (s b : List ℕ) (fs vs ss : List Float) (a : Active) where
 -- ---- which targets matter
 
 -- that channel, where a target's row is for visible or for alpha, and nothing where it is for neither
-abbrev pub only_own : Found → Found
-only_own (found.At k) = cond (eqb k visible_channel || eqb k alpha_channel) (found.At k) found.Nothing
-only_own found.Nothing = found.Nothing
+abbrev pub only_own : Option ℕ → Option ℕ
+only_own (Some k) = cond (eqb k visible_channel || eqb k alpha_channel) (Some k) None
+only_own None = None
 
-unfoldable pub own_channel : Target → Found
+unfoldable pub own_channel : Target → Option ℕ
 own_channel row = only_own (pane_channel (family_of row.code) row.raw)
 
 -- the pane that is reached
-abbrev pub pane_in : Reached → Found
-pane_in (reached.Pane p) = found.At p
-pane_in (reached.Material m) = found.Nothing
-pane_in reached.Nothing = found.Nothing
+abbrev pub pane_in : Option Reached → Option ℕ
+pane_in (Some (reached.Pane p)) = Some p
+pane_in (Some (reached.Material m)) = None
+pane_in None = None
 
 -- the pane whose channel j target t addresses while animation a is active, j being visible or alpha
-unfoldable pub own_pane : List ℕ → List ℕ → ℕ → ℕ → ℕ → Found
-own_pane s b a j t = cond (is_at (own_channel (target_row s t)) j) (pane_in (active_reach s b a (target_row s t).content)) found.Nothing
+unfoldable pub own_pane : List ℕ → List ℕ → ℕ → ℕ → ℕ → Option ℕ
+own_pane s b a j t = cond (is_at (own_channel (target_row s t)) j) (pane_in (active_reach s b a (target_row s t).content)) None
 
 -- a store where the test holds
 abbrev pub put_if : {A : Type 0} → Bool → ℕ → A → List A → List A
@@ -66,19 +66,19 @@ put_if false p v l = l
 
 -- ---- they are the targets that address the two channels
 
-own_is : (o : Found) (j : ℕ) → (eqb j visible_channel || eqb j alpha_channel) ≡ true → is_at (only_own o) j ≡ is_at o j
-own_is (found.At k) j h = go (eqb k visible_channel || eqb k alpha_channel) refl (eqb k j) refl
+own_is : (o : Option ℕ) (j : ℕ) → (eqb j visible_channel || eqb j alpha_channel) ≡ true → is_at (only_own o) j ≡ is_at o j
+own_is (Some k) j h = go (eqb k visible_channel || eqb k alpha_channel) refl (eqb k j) refl
   where
-    go : (x : Bool) → (eqb k visible_channel || eqb k alpha_channel) ≡ x → (y : Bool) → eqb k j ≡ y → is_at (cond x (found.At k) found.Nothing) j ≡ y
+    go : (x : Bool) → (eqb k visible_channel || eqb k alpha_channel) ≡ x → (y : Bool) → eqb k j ≡ y → is_at (cond x (Some k) None) j ≡ y
     go true e y f = f
     go false e true f = let q : (eqb k visible_channel || eqb k alpha_channel) ≡ true = rw (eqb-true k j f) h in cc
     go false e false f = refl
-own_is found.Nothing j h = refl
+own_is None j h = refl
 
-in_is : (x : Bool) (r : Reached) (p : ℕ) → is_at (cond x (pane_in r) found.Nothing) p ≡ (x && is_pane r p)
-in_is true (reached.Pane q) p = refl
-in_is true (reached.Material m) p = refl
-in_is true reached.Nothing p = refl
+in_is : (x : Bool) (r : Option Reached) (p : ℕ) → is_at (cond x (pane_in r) None) p ≡ (x && is_pane r p)
+in_is true (Some (reached.Pane q)) p = refl
+in_is true (Some (reached.Material m)) p = refl
+in_is true None p = refl
 in_is false r p = refl
 
 own_hit : (s b : List ℕ) (a t p j : ℕ) → (eqb j visible_channel || eqb j alpha_channel) ≡ true → p < pane_count b → j < pane_channels → is_at (own_pane s b a j t) p ≡ is_at (target_channel s b a t) (of_pane p j)

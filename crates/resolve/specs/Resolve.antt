@@ -1,9 +1,9 @@
--- Resolving (document 01, "Channels"): for the channels that the book holds, the override, else the book. Definitions only.
+-- Resolving: for the channels that the book holds, the override, else the book. Definitions only.
 use Rattle.std.specs.Prelude.{ℕ, ◌+◌, ◌*◌, Bool, List, pos, Float}
 use Rattle.std.specs.Float.{binary32}
 use Rattle.std.specs.Float.Ieee.{of_int}
-use Rattle.laws.specs.declared.Found.{Found}
-use Rattle.laws.specs.declared.Found.TheVariants as found
+use Rattle.std.specs.Prelude.{Option}
+use Rattle.std.specs.Prelude.{Some, None}
 use Rattle.float.specs.Numbers.{◌⊘◌}
 use Rattle.sheet.specs.Rows.{texture_name}
 use Rattle.book.specs.Rows.{pane_row, material_srt, material_texture}
@@ -12,7 +12,7 @@ use Rattle.float.specs.declared.vector.Vector2.{Vector2}
 use Rattle.float.specs.declared.vector.Vector3.{Vector3}
 use Rattle.channel.specs.Channel.{visible_channel, alpha_channel, slot_channel, of_pane, of_material}
 use Rattle.reading.specs.Reading.{reading, full}
-use Rattle.reading.specs.declared.Active.{Active}
+use Rattle.reading.specs.Active.{Active}
 use Rattle.reading.specs.declared.Reading.{Reading}
 use Rattle.reading.specs.declared.Reading.TheVariants.{Nothing, Number, Shown, Row, Level}
 use Rattle.resolve.specs.declared.Transform.{Transform}
@@ -37,12 +37,12 @@ abbrev pub book_alpha : List ℕ → ℕ → Float
 book_alpha b p = of_int binary32 (pos (pane_row b p).alpha) ⊘ full
 
 -- the row of the sheet's texture names that a reading names
-abbrev pub row_in : Reading → Found
-row_in Nothing = found.Nothing
-row_in (Number v) = found.Nothing
-row_in (Shown b) = found.Nothing
-row_in (Row k) = found.At k
-row_in (Level l) = found.Nothing
+abbrev pub row_in : Reading → Option ℕ
+row_in Nothing = None
+row_in (Number v) = None
+row_in (Shown b) = None
+row_in (Row k) = Some k
+row_in (Level l) = None
 
 module _ (s b : List ℕ) (fs vs ss : List Float) (a : Active) where
   -- channel k of pane p, and of material m, over what the book has
@@ -88,9 +88,9 @@ module _ (s b : List ℕ) (fs vs ss : List Float) (a : Active) where
       }
 
   -- the name's field: the sheet's texture name where a row overrides the slot, else the book's
-  abbrev pub name_for : Found → ℕ → ℕ → List ℕ
-  name_for (found.At k) m slot = texture_name s k
-  name_for found.Nothing m slot = material_texture b m slot
+  abbrev pub name_for : Option ℕ → ℕ → ℕ → List ℕ
+  name_for (Some k) m slot = texture_name s k
+  name_for None m slot = material_texture b m slot
 
   unfoldable pub texture_of : ℕ → ℕ → List ℕ
   texture_of m slot = name_for (row_in (reading s b fs vs ss a (of_material b m (slot_channel slot)))) m slot

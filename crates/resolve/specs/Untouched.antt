@@ -1,5 +1,4 @@
--- An edit reaches only its own channel, resolved: a transform, a layer, a texture name, visible and alpha depend on their own channels alone (document 01,
--- "Channels"). Of two sets of keys, the first is before an edit and the second after it. The cascade is in proofs/Untouched. Assumes nothing.
+-- An edit reaches only its own channel, resolved: a transform, a layer, a texture name, visible and alpha depend on their own channels alone. Of two sets of keys, the first is before an edit and the second after it. The cascade is in proofs/Untouched. Assumes nothing.
 use Rattle.std.specs.Prelude.{ℕ, ◌+◌, ◌*◌, ◌<◌, List, map, ◌≡◌, get_or, Float}
 use native.Mathlib.Omega.{arith}
 use Rattle.std.proofs.Math.ListN.{get_or-map}
@@ -7,7 +6,7 @@ use Rattle.book.specs.Sizes.{no_parent}
 use Rattle.book.specs.Rows.{pane_row}
 use Rattle.channel.specs.Channel.{visible_channel, alpha_channel, slot_channel, of_pane, of_material}
 use Rattle.reading.specs.Reading.{reading}
-use Rattle.reading.specs.declared.Active.{Active}
+use Rattle.reading.specs.Active.{Active}
 use Rattle.resolve.specs.Resolve.{pane_number, material_number, transform_of, visible_of, alpha_of, srt_of, texture_of}
 use Rattle.resolve.specs.Cascade.{root}
 use Rattle.resolve.specs.declared.Cascaded.{Cascaded}

@@ -1,4 +1,4 @@
-// Channels resolved over the book, and the cascade over its panes (document 01, "Channels").
+// Channels resolved over the book, and the cascade over its panes.
 #![tactic(auto)]
 
 mod name;
@@ -9,7 +9,7 @@ mod rows;
 use float::{Vector2, Vector3};
 pub use name::texture_name;
 pub use over::{resolve_alpha, resolve_srt, resolve_transform, resolve_visible};
-pub use rows::cascade;
+pub use rows::{cascade, cascade_rows};
 
 // The Rust's ResolvedPaneTransform.
 #[repr(C)]
@@ -22,7 +22,7 @@ pub struct Transform {
 }
 
 // What the cascade gives a pane: whether it is shown, its alpha, and the influence that it hands its children.
-#[derive(Clone, Copy)]
+#[derive(Clone, Copy, Debug)]
 pub struct Cascaded {
     pub visible: bool,
     pub alpha: f32,

@@ -2,42 +2,29 @@
 ghost use Rattle.std.specs.Prelude.{◌≡◌, ◌<◌};
 ghost use Rattle.book.specs.Sizes.{material_count};
 ghost use Rattle.channel.specs.Channel.{material_layers};
-ghost use Rattle.reading.specs.Ready.{Ready};
 ghost use Rattle.resolve.specs.Resolve.{row_in, texture_of};
 
-use laws::Found;
-use reading::{Active, Reading, read_channel};
+use reading::{At, Menu, Reading};
 
-fn row_in(r: Reading) -> Found
+fn row_in(r: Reading) -> Option<usize>
     ensures { result ≡ row_in r }
 {
     match r {
-        Reading::Nothing => Found::Nothing,
-        Reading::Number(_) => Found::Nothing,
-        Reading::Shown(_) => Found::Nothing,
-        Reading::Row(k) => Found::At(k as usize),
-        Reading::Level(_) => Found::Nothing,
+        Reading::Row(k) => Some(k as usize),
+        Reading::Nothing | Reading::Number(_) | Reading::Shown(_) | Reading::Level(_) => None,
     }
 }
 
-pub fn texture_name<'a>(
-    s: &'a [u8],
-    b: &'a [u8],
-    frames: &[f32],
-    values: &[f32],
-    slopes: &[f32],
-    active: Active,
-    m: usize,
-    slot: usize,
-) -> &'a [u8]
-    requires { Ready s.now b.now frames.now values.now slopes.now × ((m < material_count b.now) × (slot < material_layers)) }
-    ensures { result.now ≡ texture_of s.now b.now frames.now values.now slopes.now active m slot }
+#[tactic(auto, using(channel::specs::Slot::slot_below, channel::specs::Within::material_below, crate::specs::Textures::named_below), unfolding(crate::specs::Resolve::texture_of))]
+pub fn texture_name<'a>(menu: &Menu<'a>, active: Option<At>, m: usize, slot: usize) -> &'a [u8]
+    requires material { m < material_count menu.now.book.bytes.now }
+    requires slot { slot < material_layers }
+    ensures { result.now ≡ texture_of menu.now.ready.sheet.bytes.now menu.now.book.bytes.now menu.now.ready.keys.frames.now menu.now.ready.keys.values.now menu.now.ready.keys.slopes.now active m slot }
 {
     let k = channel::slot_channel(slot as u16) as usize;
-    let c = channel::of_material(b, m, k);
-    let r = read_channel(s, b, frames, values, slopes, active, c);
-    let Found::At(k) = row_in(r) else {
-        return book::material_texture(b, m, slot);
-    };
-    sheet::texture_name(s, k)
+    let c = channel::of_material(menu.book.bytes, m, k);
+    match row_in(menu.read_channel(active, c)) {
+        Some(row) => menu.ready.sheet.texture_name(row),
+        None => menu.book.material_texture(m, slot),
+    }
 }

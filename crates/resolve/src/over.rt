@@ -1,23 +1,22 @@
 // The override of a channel, else what the book has.
-ghost use Rattle.std.specs.Prelude.{◌≡◌, ◌+◌, ◌*◌, ◌<◌};
+ghost use Rattle.std.specs.Prelude.{◌≡◌, ◌+◌, ◌<◌};
 ghost use Rattle.book.specs.Sizes.{pane_count, material_count};
-ghost use Rattle.channel.specs.Channel.{pane_channels, material_channels, material_layers};
-ghost use Rattle.reading.specs.Ready.{Ready};
-ghost use Rattle.resolve.specs.Resolve.{or_number, or_shown, pane_number, material_number, pane_vector2, pane_vector3, layer_vector, transform_of, visible_of, alpha_of, srt_of};
+ghost use Rattle.channel.specs.Channel.{channel_count, material_layers};
+ghost use Rattle.resolve.specs.Resolve.{or_number, or_shown, transform_of, visible_of, alpha_of, srt_of};
+ghost use Rattle.resolve.specs.Row.{InRow, channel_in, number_in_row, vector2_in_row, vector3_in_row};
 
 use crate::Transform;
+use book::Book;
+use channel::{ALPHA, Reached, VISIBLE, of_material, of_pane};
 use float::{Srt, Vector2, Vector3};
-use reading::{Active, Reading, read_channel};
+use reading::{At, Menu, Reading};
 
 pub fn or_number(r: Reading, base: f32) -> f32
     ensures { result ≡ or_number r base }
 {
     match r {
-        Reading::Nothing => base,
         Reading::Number(v) => v,
-        Reading::Shown(_) => base,
-        Reading::Row(_) => base,
-        Reading::Level(_) => base,
+        Reading::Nothing | Reading::Shown(_) | Reading::Row(_) | Reading::Level(_) => base,
     }
 }
 
@@ -25,226 +24,108 @@ pub fn or_shown(r: Reading, base: bool) -> bool
     ensures { result ≡ or_shown r base }
 {
     match r {
-        Reading::Nothing => base,
-        Reading::Number(_) => base,
         Reading::Shown(b) => b,
-        Reading::Row(_) => base,
-        Reading::Level(_) => base,
+        Reading::Nothing | Reading::Number(_) | Reading::Row(_) | Reading::Level(_) => base,
     }
 }
 
-// Channel k of pane p, over what the book has.
-fn pane_number(
-    s: &[u8],
-    b: &[u8],
-    frames: &[f32],
-    values: &[f32],
-    slopes: &[f32],
-    active: Active,
-    p: usize,
-    k: usize,
-    base: f32,
-) -> f32
-    requires { Ready s.now b.now frames.now values.now slopes.now × ((p < pane_count b.now) × (k < pane_channels)) }
-    ensures { result ≡ pane_number s.now b.now frames.now values.now slopes.now active p k base }
+// Channel k of a row of the book.
+#[tactic(auto, using(channel::specs::Within::pane_below, channel::specs::Within::material_below))]
+fn channel_in(book: &Book<'_>, row: Reached, k: usize) -> usize
+    requires { InRow book.now.bytes.now row k }
+    ensures channel { result ≡ channel_in book.now.bytes.now row k }
+    ensures below { result < channel_count book.now.bytes.now }
+{
+    match row {
+        Reached::Pane(p) => of_pane(p, k),
+        Reached::Material(m) => of_material(book.bytes, m, k),
+    }
+}
+
+// That channel, over what the book has.
+fn number(menu: &Menu<'_>, active: Option<At>, row: Reached, k: usize, base: f32) -> f32
+    requires { InRow menu.now.book.bytes.now row k }
+    ensures { result ≡ number_in_row menu.now.ready.sheet.bytes.now menu.now.book.bytes.now menu.now.ready.keys.frames.now menu.now.ready.keys.values.now menu.now.ready.keys.slopes.now active row k base }
 {
     or_number(
-        read_channel(s, b, frames, values, slopes, active, channel::of_pane(p, k)),
+        menu.read_channel(active, channel_in(&menu.book, row, k)),
         base,
     )
 }
 
-// Channel k of material m, over what the book has.
-fn material_number(
-    s: &[u8],
-    b: &[u8],
-    frames: &[f32],
-    values: &[f32],
-    slopes: &[f32],
-    active: Active,
-    m: usize,
-    k: usize,
-    base: f32,
-) -> f32
-    requires { Ready s.now b.now frames.now values.now slopes.now × ((m < material_count b.now) × (k < material_channels)) }
-    ensures { result ≡ material_number s.now b.now frames.now values.now slopes.now active m k base }
-{
-    or_number(
-        read_channel(
-            s,
-            b,
-            frames,
-            values,
-            slopes,
-            active,
-            channel::of_material(b, m, k),
-        ),
-        base,
-    )
-}
-
-// Channels k, k + 1 and k + 2 of pane p.
-fn pane_vector3(
-    s: &[u8],
-    b: &[u8],
-    frames: &[f32],
-    values: &[f32],
-    slopes: &[f32],
-    active: Active,
-    p: usize,
-    k: usize,
-    base: Vector3,
-) -> Vector3
-    requires { Ready s.now b.now frames.now values.now slopes.now × ((p < pane_count b.now) × (k + 2 < pane_channels)) }
-    ensures { result ≡ pane_vector3 s.now b.now frames.now values.now slopes.now active p k base }
-{
-    Vector3 {
-        x: pane_number(s, b, frames, values, slopes, active, p, k, base.x),
-        y: pane_number(s, b, frames, values, slopes, active, p, k + 1, base.y),
-        z: pane_number(s, b, frames, values, slopes, active, p, k + 2, base.z),
-    }
-}
-
-fn pane_vector2(
-    s: &[u8],
-    b: &[u8],
-    frames: &[f32],
-    values: &[f32],
-    slopes: &[f32],
-    active: Active,
-    p: usize,
-    k: usize,
-    base: Vector2,
-) -> Vector2
-    requires { Ready s.now b.now frames.now values.now slopes.now × ((p < pane_count b.now) × (k + 1 < pane_channels)) }
-    ensures { result ≡ pane_vector2 s.now b.now frames.now values.now slopes.now active p k base }
+// It and the one after it.
+fn vector2(menu: &Menu<'_>, active: Option<At>, row: Reached, k: usize, base: Vector2) -> Vector2
+    requires first { InRow menu.now.book.bytes.now row k }
+    requires last { InRow menu.now.book.bytes.now row (k + 1) }
+    ensures { result ≡ vector2_in_row menu.now.ready.sheet.bytes.now menu.now.book.bytes.now menu.now.ready.keys.frames.now menu.now.ready.keys.values.now menu.now.ready.keys.slopes.now active row k base }
 {
     Vector2 {
-        x: pane_number(s, b, frames, values, slopes, active, p, k, base.x),
-        y: pane_number(s, b, frames, values, slopes, active, p, k + 1, base.y),
+        x: number(menu, active, row, k, base.x),
+        y: number(menu, active, row, k + 1, base.y),
+    }
+}
+
+// It and the two after it.
+fn vector3(menu: &Menu<'_>, active: Option<At>, row: Reached, k: usize, base: Vector3) -> Vector3
+    requires first { InRow menu.now.book.bytes.now row k }
+    requires second { InRow menu.now.book.bytes.now row (k + 1) }
+    requires last { InRow menu.now.book.bytes.now row (k + 2) }
+    ensures { result ≡ vector3_in_row menu.now.ready.sheet.bytes.now menu.now.book.bytes.now menu.now.ready.keys.frames.now menu.now.ready.keys.values.now menu.now.ready.keys.slopes.now active row k base }
+{
+    Vector3 {
+        x: number(menu, active, row, k, base.x),
+        y: number(menu, active, row, k + 1, base.y),
+        z: number(menu, active, row, k + 2, base.z),
     }
 }
 
 // The Rust's PaneAnimation::resolve_transform.
-pub fn resolve_transform(
-    s: &[u8],
-    b: &[u8],
-    frames: &[f32],
-    values: &[f32],
-    slopes: &[f32],
-    active: Active,
-    p: usize,
-) -> Transform
-    requires { Ready s.now b.now frames.now values.now slopes.now × (p < pane_count b.now) }
-    ensures { result ≡ transform_of s.now b.now frames.now values.now slopes.now active p }
+#[tactic(auto, unfolding(crate::specs::Resolve::transform_of, crate::specs::Resolve::pane_number))]
+pub fn resolve_transform(menu: &Menu<'_>, active: Option<At>, p: usize) -> Transform
+    requires { p < pane_count menu.now.book.bytes.now }
+    ensures { result ≡ transform_of menu.now.ready.sheet.bytes.now menu.now.book.bytes.now menu.now.ready.keys.frames.now menu.now.ready.keys.values.now menu.now.ready.keys.slopes.now active p }
 {
-    let base = book::pane_row(b, p);
-    let translation = base.translation;
-    let rotation = base.rotation;
-    let scale = base.scale;
-    let size = base.size;
+    let base = menu.book.pane(p);
+    let row = Reached::Pane(p);
     Transform {
-        translation: pane_vector3(s, b, frames, values, slopes, active, p, 0, translation),
-        rotation: pane_vector3(s, b, frames, values, slopes, active, p, 3, rotation),
-        scale: pane_vector2(s, b, frames, values, slopes, active, p, 6, scale),
-        size: pane_vector2(s, b, frames, values, slopes, active, p, 8, size),
+        translation: vector3(menu, active, row, 0, base.translation),
+        rotation: vector3(menu, active, row, 3, base.rotation),
+        scale: vector2(menu, active, row, 6, base.scale),
+        size: vector2(menu, active, row, 8, base.size),
     }
 }
 
-pub fn resolve_visible(
-    s: &[u8],
-    b: &[u8],
-    frames: &[f32],
-    values: &[f32],
-    slopes: &[f32],
-    active: Active,
-    p: usize,
-) -> bool
-    requires { Ready s.now b.now frames.now values.now slopes.now × (p < pane_count b.now) }
-    ensures { result ≡ visible_of s.now b.now frames.now values.now slopes.now active p }
+#[tactic(auto, unfolding(crate::specs::Resolve::visible_of))]
+pub fn resolve_visible(menu: &Menu<'_>, active: Option<At>, p: usize) -> bool
+    requires { p < pane_count menu.now.book.bytes.now }
+    ensures { result ≡ visible_of menu.now.ready.sheet.bytes.now menu.now.book.bytes.now menu.now.ready.keys.frames.now menu.now.ready.keys.values.now menu.now.ready.keys.slopes.now active p }
 {
-    let base = book::pane_row(b, p);
-    or_shown(
-        read_channel(
-            s,
-            b,
-            frames,
-            values,
-            slopes,
-            active,
-            channel::of_pane(p, channel::VISIBLE),
-        ),
-        base.visible,
-    )
+    let c = channel_in(&menu.book, Reached::Pane(p), VISIBLE);
+    or_shown(menu.read_channel(active, c), menu.book.pane(p).visible)
 }
 
-pub fn resolve_alpha(
-    s: &[u8],
-    b: &[u8],
-    frames: &[f32],
-    values: &[f32],
-    slopes: &[f32],
-    active: Active,
-    p: usize,
-) -> f32
-    requires { Ready s.now b.now frames.now values.now slopes.now × (p < pane_count b.now) }
-    ensures { result ≡ alpha_of s.now b.now frames.now values.now slopes.now active p }
+#[tactic(auto, unfolding(crate::specs::Resolve::alpha_of, crate::specs::Resolve::pane_number))]
+pub fn resolve_alpha(menu: &Menu<'_>, active: Option<At>, p: usize) -> f32
+    requires { p < pane_count menu.now.book.bytes.now }
+    ensures { result ≡ alpha_of menu.now.ready.sheet.bytes.now menu.now.book.bytes.now menu.now.ready.keys.frames.now menu.now.ready.keys.values.now menu.now.ready.keys.slopes.now active p }
 {
-    let base = book::pane_row(b, p);
-    pane_number(
-        s,
-        b,
-        frames,
-        values,
-        slopes,
-        active,
-        p,
-        channel::ALPHA,
-        base.alpha as f32 / 255.0,
-    )
-}
-
-fn layer_vector(
-    s: &[u8],
-    b: &[u8],
-    frames: &[f32],
-    values: &[f32],
-    slopes: &[f32],
-    active: Active,
-    m: usize,
-    k: usize,
-    base: Vector2,
-) -> Vector2
-    requires { Ready s.now b.now frames.now values.now slopes.now × ((m < material_count b.now) × (k + 1 < material_channels)) }
-    ensures { result ≡ layer_vector s.now b.now frames.now values.now slopes.now active m k base }
-{
-    Vector2 {
-        x: material_number(s, b, frames, values, slopes, active, m, k, base.x),
-        y: material_number(s, b, frames, values, slopes, active, m, k + 1, base.y),
-    }
+    let base = menu.book.pane(p).alpha as f32 / 255.0;
+    number(menu, active, Reached::Pane(p), ALPHA, base)
 }
 
 // The Rust's TextureSrtAnimation::resolve.
-pub fn resolve_srt(
-    s: &[u8],
-    b: &[u8],
-    frames: &[f32],
-    values: &[f32],
-    slopes: &[f32],
-    active: Active,
-    m: usize,
-    layer: usize,
-) -> Srt
-    requires { Ready s.now b.now frames.now values.now slopes.now × ((m < material_count b.now) × (layer < material_layers)) }
-    ensures { result ≡ srt_of s.now b.now frames.now values.now slopes.now active m layer }
+#[tactic(auto, unfolding(crate::specs::Resolve::srt_of, crate::specs::Resolve::material_number))]
+pub fn resolve_srt(menu: &Menu<'_>, active: Option<At>, m: usize, layer: usize) -> Srt
+    requires material { m < material_count menu.now.book.bytes.now }
+    requires layer { layer < material_layers }
+    ensures { result ≡ srt_of menu.now.ready.sheet.bytes.now menu.now.book.bytes.now menu.now.ready.keys.frames.now menu.now.ready.keys.values.now menu.now.ready.keys.slopes.now active m layer }
 {
-    let base = book::material_srt(b, m, layer);
-    let translate = base.translate;
-    let scale = base.scale;
+    let base = menu.book.material_srt(m, layer);
+    let row = Reached::Material(m);
     let k = layer * 5;
     Srt {
-        translate: layer_vector(s, b, frames, values, slopes, active, m, k, translate),
-        rotate: material_number(s, b, frames, values, slopes, active, m, k + 2, base.rotate),
-        scale: layer_vector(s, b, frames, values, slopes, active, m, k + 3, scale),
+        translate: vector2(menu, active, row, k, base.translate),
+        rotate: number(menu, active, row, k + 2, base.rotate),
+        scale: vector2(menu, active, row, k + 3, base.scale),
     }
 }

@@ -12,11 +12,8 @@ fn put_floats(xs: &[f32], out: &mut [u8])
     requires { Finite xs.now × (length out.old ≡ length xs.now * 4) }
     ensures { out.new ≡ float_bytes xs.now }
 {
-    let n = xs.len();
-    let mut i = 0;
-    while i < n {
+    for i in 0..xs.len() {
         put_f32(out, i * 4, xs[i]);
-        i += 1;
     }
 }
 
@@ -25,12 +22,9 @@ fn put_points(values: &[f32], slopes: &[f32], out: &mut [u8])
     requires { (Finite values.now × Finite slopes.now) × ((length slopes.now ≡ length values.now) × (length out.old ≡ length values.now * 8)) }
     ensures { out.new ≡ float_bytes (points_of values.now slopes.now) }
 {
-    let n = values.len();
-    let mut i = 0;
-    while i < n {
+    for i in 0..values.len() {
         put_f32(out, i * 8, values[i]);
         put_f32(out, i * 8 + 4, slopes[i]);
-        i += 1;
     }
 }
 

@@ -1,11 +1,19 @@
--- How the code tests rows with fewer reads than the definitions have: a loop carries the number of the row before, and a byte with the padding after it
--- is one number. Assumes nothing.
+-- How the code tests rows: those of the three tables are one test, a loop may carry the number of the row before, and a byte with the padding after it is one
+-- number. Assumes nothing.
 use Rattle.std.specs.Prelude.{ℕ, zero, suc, ◌+◌, ◌-◌, ◌*◌, ◌<◌, List, Bool, true, false, ◌&&◌, ◌≡◌, refl, leb, eqb}
 use Rattle.std.proofs.Common.{add-one, arith, le-leb, leb-true, leb-false, eqb-true}
 use Rattle.std.proofs.lemmas.Bool.{lt-leb, eqb-false}
 use Rattle.field.specs.Read.{byte_at, u16_at}
-use Rattle.sheet.specs.Sizes.{content_bytes, target_bytes}
+use Rattle.laws.specs.Below.{all_below}
+use Rattle.sheet.specs.Sizes.{animation_count, content_count, target_count, key_count, content_bytes, target_bytes, contents_at, targets_at}
+use Rattle.sheet.specs.Sheet.{animation_ok, content_ok, targets_ok}
 use Rattle.sheet.specs.Rows.{content_at, target_at}
+
+-- the rows of the three tables
+unfoldable pub rows_ok : List ℕ → Bool
+rows_ok s =
+    all_below (animation_count s) (animation_ok s) && all_below (content_count s) (content_ok s (contents_at s) (animation_count s)) &&
+    targets_ok s (targets_at s) (content_count s) (target_count s) (key_count s)
 
 -- the number of the row before i, and 0 at first, below which none is
 unfoldable pub prior : (ℕ → ℕ) → ℕ → ℕ

@@ -3,6 +3,7 @@
 
 mod layout;
 mod rows;
+mod view;
 
 pub use layout::{length_ok, sheet_ok};
 pub use rows::{
@@ -10,3 +11,4 @@ pub use rows::{
     animation_row, content_count, content_row, contents_at, key_count, next_name, target_at,
     target_count, target_row, targets_at, texture_count, texture_name, textures_at,
 };
+pub use view::Sheet;

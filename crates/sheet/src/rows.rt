@@ -22,25 +22,27 @@ pub const KEY_BYTES: usize = 12;
 // Where the name stands in an animation's row and in a content's.
 pub const ROW_NAME: usize = 4;
 
-#[derive(Clone, Copy)]
+#[derive(Clone, Copy, Debug)]
 pub struct Animation {
     pub frames: u16,
     pub looping: bool,
     pub next: bool,
 }
 
-#[derive(Clone, Copy)]
+#[derive(Clone, Copy, Debug)]
 pub struct Content {
     pub animation: usize,
+    // A number from 0 to 4, which is told and never looked at here.
     pub kind: usize,
 }
 
-#[derive(Clone, Copy)]
+#[derive(Clone, Copy, Debug)]
 pub struct Target {
     pub content: usize,
     pub layer: usize,
     pub raw: usize,
     pub code: u32,
+    // A number from 0 to 2 in a checked sheet, and any in one that is not: so no enum here, and curve's Kind is made where a curve is read.
     pub curve: usize,
     pub first: usize,
     pub count: usize,
@@ -108,6 +110,7 @@ pub fn textures_at(s: &[u8]) -> usize
 
 // ---- rows
 
+#[tactic(auto, unfolding(crate::specs::Rows::animation_row))]
 pub fn animation_row(s: &[u8], i: usize) -> Animation
     requires { Checked s.now × (i < animation_count s.now) }
     ensures { result ≡ animation_row s.now i }
@@ -120,6 +123,7 @@ pub fn animation_row(s: &[u8], i: usize) -> Animation
     }
 }
 
+#[tactic(auto, unfolding(crate::specs::Rows::content_row))]
 pub fn content_row(s: &[u8], i: usize) -> Content
     requires { Checked s.now × (i < content_count s.now) }
     ensures { result ≡ content_row s.now i }
@@ -147,6 +151,7 @@ pub fn target_at(s: &[u8], at: usize) -> Target
     }
 }
 
+#[tactic(auto, unfolding(crate::specs::Rows::target_row))]
 pub fn target_row(s: &[u8], i: usize) -> Target
     requires { Checked s.now × (i < target_count s.now) }
     ensures { result ≡ target_row s.now i }
@@ -156,6 +161,7 @@ pub fn target_row(s: &[u8], i: usize) -> Target
 
 // ---- names
 
+#[tactic(auto, unfolding(crate::specs::Rows::next_name))]
 pub fn next_name<'a>(s: &'a [u8], i: usize) -> &'a [u8]
     requires { Checked s.now × (i < animation_count s.now) }
     ensures { result.now ≡ next_name s.now i }
@@ -163,6 +169,7 @@ pub fn next_name<'a>(s: &'a [u8], i: usize) -> &'a [u8]
     field::name_at(s, HEAD + i * ANIMATION_BYTES + ROW_NAME)
 }
 
+#[tactic(auto, unfolding(crate::specs::Rows::texture_name))]
 pub fn texture_name<'a>(s: &'a [u8], i: usize) -> &'a [u8]
     requires { Checked s.now × (i < texture_count s.now) }
     ensures { result.now ≡ texture_name s.now i }

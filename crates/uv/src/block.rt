@@ -96,7 +96,8 @@ fn srt_at(srts: &[f32], i: usize) -> Srt
     }
 }
 
-// A layer's UV set, transformed where the layer has an SRT. The sine and cosine are made once.
+// A layer's UV set, transformed where the layer has an SRT. The sine and cosine are made once. The four pairs are written out: of `set.map(..)` the proof
+// did not close.
 fn transform_set(srts: &[f32], layer: usize, set: [[f32; 2]; 4]) -> [[f32; 2]; 4]
     requires { layer < 3 }
     ensures { result ≡ set_transformed srts.now layer set }
@@ -147,11 +148,9 @@ pub fn store(uvs: [[[f32; 2]; 3]; 4], out: &mut [f32])
     requires { length out.old ≡ block_numbers }
     ensures { out.new ≡ numbers uvs }
 {
-    let mut i = 0;
-    while i < PAIRS {
+    for i in 0..PAIRS {
         let pair = uvs[i / 3][i % 3];
         out[i * 2] = pair[0];
         out[i * 2 + 1] = pair[1];
-        i += 1;
     }
 }

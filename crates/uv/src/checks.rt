@@ -1,59 +1,50 @@
 // What `uvs` declines, and by which number (document 01, "What a call declines"). Nothing here changes anything.
-ghost use Rattle.std.specs.Prelude.{◌≡◌};
+ghost use Rattle.std.specs.Prelude.{◌≡◌, ◌+◌, ◌*◌, ◌<◌, length};
+ghost use Rattle.laws.specs.Refusal.{declined};
 ghost use Rattle.laws.specs.Rows.{declines};
-ghost use Rattle.uv.specs.Declined.{all_finite, angles_pass, uvs_table};
+ghost use Rattle.uv.specs.Uvs.{srt_numbers};
+ghost use Rattle.uv.specs.Declined.{all_finite, angle_at, angles_pass, uvs_table};
 
 use crate::block::{BLOCK, LAYER, SRT};
-use laws::refusal::{ACCEPTED, ANGLE_TOO_LARGE, BAD_ARGUMENT, OUTPUT_LENGTH};
+use laws::{Refusal, ask};
 
 // Every number of the list is finite. No early way out: the loop then goes several at a time.
+#[tactic(auto, using(laws::specs::Below::all_none, laws::specs::Below::all_step), unfolding(crate::specs::Declined::all_finite, crate::specs::Declined::finite_at))]
 fn all_finite(s: &[f32]) -> bool
     ensures { result ≡ all_finite s.now }
 {
     let mut ok = true;
-    let mut i = 0;
-    while i < s.len() {
-        ok = ok & float::is_finite(s[i]);
-        i += 1;
+    for x in s {
+        ok &= float::is_finite(*x);
     }
     ok
 }
 
+// Whether the angle of SRT number i passes.
+#[tactic(auto, unfolding(crate::specs::Declined::angle_at))]
+fn angle_passes(srts: &[f32], i: usize) -> bool
+    requires { i * srt_numbers + 2 < length srts.now }
+    ensures { result ≡ angle_at srts.now i }
+{
+    float::angle_passes(srts[i * SRT + 2])
+}
+
 // The angle of every SRT of the list passes.
+#[tactic(auto, unfolding(crate::specs::Declined::angles_pass, laws::specs::Below::all_below))]
 fn angles_pass(srts: &[f32]) -> bool
     ensures { result ≡ angles_pass srts.now }
 {
-    let n = srts.len() / SRT;
-    let mut i = 0;
-    while i < n {
-        if !float::angle_passes(srts[i * SRT + 2]) {
-            return false;
-        }
-        i += 1;
-    }
-    true
+    (0..srts.len() / SRT).all(|i| angle_passes(srts, i))
 }
 
-pub fn uvs_refusal(layers: &[f32], srts: &[f32], length: usize) -> u8
-    ensures { result ≡ declines (uvs_table layers.now srts.now length) }
+#[tactic(auto, unfolding(crate::specs::Declined::uvs_table, laws::specs::Rows::declines, laws::specs::Rows::unless))]
+pub fn check_uvs(layers: &[f32], srts: &[f32], length: usize) -> Result<(), Refusal>
+    ensures { declined result ≡ declines (uvs_table layers.now srts.now length) }
 {
-    if layers.len() % LAYER != 0 {
-        return BAD_ARGUMENT;
-    }
-    if srts.len() % SRT != 0 {
-        return BAD_ARGUMENT;
-    }
-    if !all_finite(layers) {
-        return BAD_ARGUMENT;
-    }
-    if !all_finite(srts) {
-        return BAD_ARGUMENT;
-    }
-    if !angles_pass(srts) {
-        return ANGLE_TOO_LARGE;
-    }
-    if length != BLOCK {
-        return OUTPUT_LENGTH;
-    }
-    ACCEPTED
+    ask(layers.len() % LAYER == 0, Refusal::BadArgument)?;
+    ask(srts.len() % SRT == 0, Refusal::BadArgument)?;
+    ask(all_finite(layers), Refusal::BadArgument)?;
+    ask(all_finite(srts), Refusal::BadArgument)?;
+    ask(angles_pass(srts), Refusal::AngleTooLarge)?;
+    ask(length == BLOCK, Refusal::OutputLength)
 }

@@ -8,18 +8,21 @@ mod checks;
 ghost use Rattle.std.specs.Prelude.{◌≡◌};
 ghost use Rattle.uv.specs.Calls.{filled, uvs_of};
 
+use laws::Refusal;
 use laws::refusal::ACCEPTED;
 
 // The UV block of the lent layers under the lent SRTs, into an output of 24 numbers.
+#[tactic(auto, using(crate::specs::Declined::uvs_length), unfolding(crate::specs::Calls::uvs_of))]
 pub fn uvs(layers: &[f32], srts: &[f32], out: &mut [f32]) -> u8
     ensures { filled result out.new ≡ uvs_of layers.now srts.now out.old }
 {
-    let refusal = checks::uvs_refusal(layers, srts, out.len());
-    if refusal != ACCEPTED {
-        return refusal;
+    match checks::check_uvs(layers, srts, out.len()) {
+        Ok(()) => {
+            let base = block::compute_uvs(layers);
+            let block = block::apply_srt_to_uvs(base, srts);
+            block::store(block, out);
+            ACCEPTED
+        }
+        Err(refusal) => refusal.number(),
     }
-    let base = block::compute_uvs(layers);
-    let block = block::apply_srt_to_uvs(base, srts);
-    block::store(block, out);
-    ACCEPTED
 }

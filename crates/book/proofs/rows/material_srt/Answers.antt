@@ -15,7 +15,3 @@ f32_at-requires c = let floats : let a = c.args in FiniteFrom a.b.now (materials
 
 pub vector2_at-requires-2 : goal.vector2_at-requires-2
 vector2_at-requires-2 c = let floats : let a = c.args in FiniteFrom a.b.now (materials_at a.b.now + a.i * material_bytes + 96) 15 = material_finite_lem c.requires.0 c.args.i c.requires.1.0 in (omega arith, finite_part (floats) (c.args.j * 5 + 3) 2 _ (omega arith) (omega arith))
-
-pub returns : goal.returns
-unfolding material_srt
-returns c = cc

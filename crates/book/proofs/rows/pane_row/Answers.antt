@@ -18,7 +18,3 @@ vector2_at-requires c = let floats : FiniteFrom c.args.b.now (panes_at + c.args.
 
 pub vector2_at-requires-2 : goal.vector2_at-requires-2
 vector2_at-requires-2 c = let floats : FiniteFrom c.args.b.now (panes_at + c.args.i * pane_bytes + 32) 10 = pane_finite_lem c.requires.0 c.args.i c.requires.1 in (omega arith, finite_part (floats) 8 2 _ (omega arith) (omega arith))
-
-pub returns : goal.returns
-unfolding pane_row
-returns c = cc

@@ -1,27 +1,23 @@
-use native.Mathlib.Omega.{arith}
-use mathlib.Core.Path.{◌≡◌, sym}
-use Rattle.laws.specs.Sum.{sum_none, sum_more}
+-- Before the first row no count is summed; after the last the sum is asked for.
+use Rattle.std.proofs.Common.{ℕ, List, arith, sym, ◌≡◌, nat_eq}
+use Rattle.laws.specs.Sum.{sum_none, sum_below}
 use Rattle.sheet.specs.Sheet.{keys_of}
-use Rattle.faults.specs.Tests.{fault_of}
-use Rattle.faults.specs.Loops.{clear_none, clear_more, clear_not_join, clear_all_join}
-use Rattle.faults.specs.Sheet.{target_tests, targets_tests, count_test, target_numbered}
+use Rattle.faults.specs.Rules.{count_sum}
+use Rattle.faults.specs.Tests.{fault}
+use Rattle.faults.specs.Verdict.{verdict, asked, each_none, first_accepts}
+use Rattle.faults.specs.Sheet.{targets_tests, count_test}
 use Rattle.faults.proofs.sheets.targets_fault.Goals as goal
 
+counted : (s : List ℕ) (base n k sum : ℕ) → sum ≡ sum_below n (keys_of s base) → asked (nat_eq sum k) (fault count_sum 0 0 6 k sum) ≡ verdict (count_test s base n k)
+unfolding verdict count_test
+counted s base n k sum e = rw e
+
 pub loop-i-init : goal.loop-i-init
-loop-i-init c = (clear_none _ _, (sym (sum_none _), omega arith))
-
-pub returns-then-f-ne-NONE : goal.returns-then-f-ne-NONE
-unfolding targets_tests target_tests
-returns-then-f-ne-NONE c = let b = c.loop-i.invariant in
-    clear_not_join _ b.0 (omega arith) (rw (← b.1.0) c.target_fault-f.ensures) c.if-f-ne-NONE.true
-
-pub loop-i-preserved : goal.loop-i-preserved
-unfolding target_tests keys_of
-loop-i-preserved c = let b = c.loop-i.invariant in
-    (clear_more {f = c.target_fault-f.result} b.0 (omega arith) (target_numbered _ _ _ _) (rw (← b.1.0) c.target_fault-f.ensures) c.if-f-ne-NONE.false, (rw (sum_more, b.1.0, c.u16_at-sum.ensures.0), omega arith))
+loop-i-init c = record { kept = each_none _; summed = sym (sum_none _); small = omega arith }
 
 pub returns : goal.returns
-unfolding targets_tests count_test fault_of
-returns c = let b = c.loop-i.invariant in
+unfolding targets_tests
+returns c =
     let e : c.loop-i.i ≡ c.args.n = omega arith in
-    clear_all_join _ b.0 (omega arith) (rw (c.asked.ensures, c.sound.ensures, b.1.0, e))
+    let h = c.loop-i.invariant in
+    rw (first_accepts _ _ (rw e at h.kept), c.ask.ensures, c.of.ensures) (counted _ _ _ _ _ (rw e at h.summed))

@@ -1,15 +1,13 @@
 -- `reach` gives `reach_of`, its outputs included: the channels' marks, and by them the panes'.
-use Rattle.reach.proofs.Answers.{refused, accepted, marks_long, made}
+use Rattle.std.proofs.Common.{refl}
+use Rattle.laws.specs.Refused as refusal
+use Rattle.reach.proofs.Answers.{refused, made}
 use Rattle.reach.proofs.call.reach.Goals as goal
 
-pub returns-then-n-ne-ACCEPTED : goal.returns-then-n-ne-ACCEPTED
-returns-then-n-ne-ACCEPTED c = refused _ _ _ _ _ _ _ c.reach_refusal-n.ensures c.if-n-ne-ACCEPTED.true
+pub returns-in-Ok : goal.returns-in-Ok
+returns-in-Ok c =
+    let o = c.in-Ok.ensures in
+    made _ _ _ _ _ _ _ (rw c.in-Ok.is at c.checked.ensures.declined) refl (rw (o.sheet, o.book, o.old, o.new) at c.touched_channels.ensures) c.touched_panes.ensures
 
-pub touched_channels-requires : goal.touched_channels-requires
-touched_channels-requires c = let a = accepted _ _ _ _ _ _ _ c.reach_refusal-n.ensures c.if-n-ne-ACCEPTED.false in (a.0, a.1.0)
-
-pub touched_panes-requires : goal.touched_panes-requires
-touched_panes-requires c = let a = accepted _ _ _ _ _ _ _ c.reach_refusal-n.ensures c.if-n-ne-ACCEPTED.false in (a.0.book, (marks_long _ _ _ _ _ c.touched_channels.ensures, a.1.1))
-
-pub returns : goal.returns
-returns c = made _ _ _ _ _ _ _ c.reach_refusal-n.ensures c.if-n-ne-ACCEPTED.false c.touched_channels.ensures c.touched_panes.ensures
+pub returns-in-Err : goal.returns-in-Err
+returns-in-Err c = rw c.number.ensures (refused _ _ _ _ _ _ _ (rw c.in-Err.is at c.checked.ensures.declined) (refusal.refused _))

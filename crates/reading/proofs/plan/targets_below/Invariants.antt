@@ -6,7 +6,7 @@ use Rattle.laws.specs.Parted.{Parted}
 use Rattle.reading.proofs.plan.targets_below.Given as goal
 
 abbrev pub invariant-loop-lo : goal.invariant-loop-lo
-invariant-loop-lo l = Parted (target_animation l.s) (target_count l.s) l.a l.lo l.hi
+invariant-loop-lo l = Parted (target_animation l.sheet.bytes.now) (target_count l.sheet.bytes.now) l.a l.lo l.hi
 
 abbrev pub decreases-loop-lo : goal.decreases-loop-lo
 decreases-loop-lo l = l.hi - l.lo

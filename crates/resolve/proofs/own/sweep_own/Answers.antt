@@ -1,41 +1,40 @@
-use mathlib.Core.Path.{◌≡◌, sym, ◌∙◌}
-use native.Mathlib.Omega.{arith}
-use Rattle.channel.specs.Held.{held_for, holds_none, holds_is}
-use Rattle.reading.proofs.Planning.{row_is, row_content}
-use Rattle.reading.proofs.Pass.{row_ready, cleared}
+use Rattle.std.proofs.Common.{arith}
+use Rattle.channel.specs.Held.{holds_for}
+use Rattle.reading.proofs.Planning.{row_content}
+use Rattle.reading.proofs.Pass.{row_ready}
 use Rattle.resolve.proofs.Pass.{pane_within, pass_none, pass_other, pass_beside, pass_at, pass_all}
 use Rattle.resolve.proofs.own.sweep_own.Goals as goal
-use Rattle.resolve.proofs.own.sweep_own.Goals.{then-row-held, else-row-held}
 
-pub loop-next-init : goal.loop-next-init
-loop-next-init c = pass_none (rw c.none_held-held.ensures (holds_none _ _ _ c.requires.ready.0.sheet)) c.requires.visible_value.0 c.requires.visible_value.1
+pub loop-t-init : goal.loop-t-init
+loop-t-init c = (pass_none c.requires.visible_value c.requires.alpha_value, tt)
 
-pub loop-next-preserved-in_default : goal.loop-next-preserved-in_default
-loop-next-preserved-in_default c = pass_other c.loop-next.invariant (omega arith) (row_is _ _ c.targets_at-base.ensures c.target_at-row.ensures) c.own_channel.ensures c.in_default.is
+pub loop-t-preserved-in_default : goal.loop-t-preserved-in_default
+loop-t-preserved-in_default c = (pass_other c.loop-t.invariant.0 (omega arith) c.target-row.ensures c.own_channel.ensures c.in_default.is, c.loop-t.invariant.1)
 
-pub held_for-held-requires : goal.held_for-held-requires
-held_for-held-requires c = let r = c.requires.ready in (r.0.sheet, (r.1, row_content _ _ r.0.sheet (omega arith) (row_is _ _ c.targets_at-base.ensures c.target_at-row.ensures)))
+pub held_for-now-requires-clause-content : goal.held_for-now-requires-clause-content
+held_for-now-requires-clause-content c = row_content _ _ c.args.menu.now.ready.sheet.checked (omega arith) c.target-row.ensures
 
-pub loop-next-preserved-in_default-pane_in : goal.loop-next-preserved-in_default-pane_in
-loop-next-preserved-in_default-pane_in c = let held-now : let a = c.args in c.if-row-held.held ≡ held_for a.s.now a.b.now a.a c.target_at-row.result.content = (elim c.if-row-held.branch [ then-row-held w ↦ w.held-is ∙ w.held_for-held.ensures | else-row-held w ↦ w.held-is ∙ holds_is c.loop-next.invariant.holds (sym w.if-row-held.false) ]) in pass_beside c.loop-next.invariant (omega arith) (row_is _ _ c.targets_at-base.ensures c.target_at-row.ensures) (held-now) c.pane_in.ensures c.in_default-pane_in.is
+pub loop-t-preserved-in_default-pane_in : goal.loop-t-preserved-in_default-pane_in
+loop-t-preserved-in_default-pane_in c =
+    let now = rw c.requires.names at c.held_for-now.ensures in
+    (pass_beside c.loop-t.invariant.0 (omega arith) c.target-row.ensures now c.pane_in.ensures c.in_default-pane_in.is, rw now (holds_for _ _ _ _))
 
 pub row_reading-r-requires : goal.row_reading-r-requires
-row_reading-r-requires c = row_ready _ _ c.requires.ready.0 (omega arith) (row_is _ _ c.targets_at-base.ensures c.target_at-row.ensures)
+row_reading-r-requires c = let r = c.args.menu.now.ready in row_ready _ _ r.sheet.checked r.ready (omega arith) c.target-row.ensures
 
-pub put_own-requires : goal.put_own-requires
-put_own-requires c = let held-now : let a = c.args in c.if-row-held.held ≡ held_for a.s.now a.b.now a.a c.target_at-row.result.content = (elim c.if-row-held.branch [ then-row-held w ↦ w.held-is ∙ w.held_for-held.ensures | else-row-held w ↦ w.held-is ∙ holds_is c.loop-next.invariant.holds (sym w.if-row-held.false) ]) in let v = c.loop-next.invariant in
-    (c.requires.ready.0.book, (pane_within _ _ _ _ _ (held-now) c.pane_in.ensures c.in-At-pane_in.is, (v.shown.long, v.faded.long)))
+pub put_own-requires-clause-pane : goal.put_own-requires-clause-pane
+put_own-requires-clause-pane c = pane_within _ _ _ _ _ (rw c.requires.names at c.held_for-now.ensures) c.pane_in.ensures c.in-Some-pane_in.is
 
-pub loop-next-preserved : goal.loop-next-preserved
-loop-next-preserved c = let held-now : let a = c.args in c.if-row-held.held ≡ held_for a.s.now a.b.now a.a c.target_at-row.result.content = (elim c.if-row-held.branch [ then-row-held w ↦ w.held-is ∙ w.held_for-held.ensures | else-row-held w ↦ w.held-is ∙ holds_is c.loop-next.invariant.holds (sym w.if-row-held.false) ]) in
-    pass_at c.loop-next.invariant (omega (arith, c.target_count-n.ensures)) (row_is _ _ c.targets_at-base.ensures c.target_at-row.ensures) c.own_channel.ensures c.in-At.is
-    (held-now) c.pane_in.ensures c.in-At-pane_in.is c.texture_count-textures.ensures c.row_reading-r.ensures (c.put_own.ensures.visible_after, c.put_own.ensures.alpha_after)
+pub loop-t-preserved : goal.loop-t-preserved
+loop-t-preserved c =
+    let now = rw c.requires.names at c.held_for-now.ensures in (
+      pass_at c.loop-t.invariant.0 (omega arith) c.target-row.ensures c.own_channel.ensures c.in-Some.is now c.pane_in.ensures c.in-Some-pane_in.is
+          c.texture_count-textures.ensures c.row_reading-r.ensures (c.put_own.ensures.visible_after, c.put_own.ensures.alpha_after),
+      rw now (holds_for _ _ _ _),
+    )
 
-pub shape_of-visible : goal.shape_of-visible
-shape_of-visible c = omega (arith, cleared _ _ c.requires.visible_value.0)
+pub returns-clause-visible_after : goal.returns-clause-visible_after
+returns-clause-visible_after c = (pass_all c.loop-t.invariant.0 (omega arith)).0
 
-pub shape_of-alpha : goal.shape_of-alpha
-shape_of-alpha c = omega (arith, cleared _ _ c.requires.visible_value.1)
-
-pub returns : goal.returns
-returns c = let both = pass_all c.loop-next.invariant (omega arith) in record { visible_after = both.0; alpha_after = both.1 }
+pub returns-clause-alpha_after : goal.returns-clause-alpha_after
+returns-clause-alpha_after c = (pass_all c.loop-t.invariant.0 (omega arith)).1

@@ -1,12 +1,8 @@
--- After i turns the answer is whether the first i numbers are finite.
-use Prim.Native.Nat.{◌-◌}
-use lib.ListN.{length}
-use Rattle.laws.specs.Joined.{Joined}
+-- What has been seen so far is finite.
+use Rattle.std.proofs.Common.{◌≡◌}
+use Rattle.laws.specs.Below.{all_below}
 use Rattle.uv.specs.Declined.{finite_at}
 use Rattle.uv.proofs.checks.all_finite.Given as goal
 
-abbrev pub invariant-loop-i : goal.invariant-loop-i
-invariant-loop-i l = Joined (length l.s) (finite_at l.s) l.ok l.i
-
-abbrev pub decreases-loop-i : goal.decreases-loop-i
-decreases-loop-i l = length l.s - l.i
+abbrev pub invariant-loop-x : goal.invariant-loop-x
+invariant-loop-x l = l.ok ≡ all_below l.x-index (finite_at l.s)

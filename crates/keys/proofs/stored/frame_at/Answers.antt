@@ -1,7 +1,0 @@
--- The frame lies within a checked sheet, and was found finite.
-use native.Mathlib.Omega.{arith}
-use Rattle.keys.specs.Stored.{stored_frame}
-use Rattle.keys.proofs.stored.frame_at.Goals as goal
-
-pub f32_at-requires : goal.f32_at-requires
-f32_at-requires c = (omega arith, rw c.frames_at.ensures (stored_frame c.requires.0 _ c.requires.1))

@@ -1,0 +1,15 @@
+-- Where a row that every reading asks declines, the call does.
+use Rattle.std.proofs.Common.{◌≡◌, rules, Err}
+use Rattle.laws.specs.Refused.{refused}
+use Rattle.laws.specs.Rows.{stops}
+use Rattle.edit.specs.Keys.{keys}
+use Rattle.menu_checks.specs.Rows.{reading_rows}
+use Rattle.menu_readings.specs.Rows.{read_material_table}
+use Rattle.menu_readings.proofs.single.material_reading.Goals as goal
+
+pub returns-in_err-menu-clause-declined : goal.returns-in_err-menu-clause-declined
+unfolding read_material_table
+returns-in_err-menu-clause-declined c =
+    let q : c.from_residual.result ≡ Err c.in_err-menu.field-0.0 = search rules in
+    let ks = keys c.args.frames.now c.args.values.now c.args.slopes.now in
+    rw q (stops (reading_rows c.args.s.now c.args.b.now c.args.p.now ks) _ c.in_err-menu.ensures.declined (refused _))
