@@ -4,23 +4,12 @@
 
 mod reached;
 
-use cli_page::{Out, PAGE, count, end, say};
-use cli_printed::{MATERIAL_CHANNELS, PANE_CHANNELS, name_material_channel, name_pane_channel};
+use cli_page::Out;
+use cli_printed::{MATERIAL_CHANNELS, Owner, PANE_CHANNELS, name_channel};
 use reached::{BOOK_BYTES, SHEET_BYTES};
 use std::fs::File;
 use std::io;
 use std::io::Read;
-
-fn say_reached(o: Out, page: &mut [u8; PAGE], c: usize) -> Out {
-    if c < PANE_CHANNELS {
-        return name_pane_channel(o, page, c);
-    }
-    say(
-        o,
-        page,
-        b" no channel, or not the same for every content and curve",
-    )
-}
 
 // A file that is as long as buf.
 fn read(rt: HostRuntime, path: &str, buf: &mut [u8]) -> io::Result<()> {
@@ -28,63 +17,37 @@ fn read(rt: HostRuntime, path: &str, buf: &mut [u8]) -> io::Result<()> {
     file.read_exact(buf)
 }
 
-// One raw number, on a line.
-fn raw_number(
-    o: Out,
-    page: &mut [u8; PAGE],
-    sheet: &mut [u8; SHEET_BYTES],
-    book: &[u8; BOOK_BYTES],
-    raw: u8,
-) -> Out {
-    let c = reached::reached(sheet, book, raw);
-    let p = count(o, page, b"FLVC ", b"raw", raw as u64);
-    end(say_reached(p, page, c), page)
-}
-
-fn raw_numbers(o: Out, page: &mut [u8; PAGE]) -> io::Result<Out> {
+// The raw numbers, one a line.
+fn raw_numbers(out: &mut Out) -> io::Result<()> {
     let mut sheet = [0u8; SHEET_BYTES];
     let mut book = [0u8; BOOK_BYTES];
-    read(o.rt, "one.sheet", &mut sheet)?;
-    read(o.rt, "one.book", &mut book)?;
-    let mut p = o;
-    let mut raw = 0u64;
-    while raw < 256 {
-        p = raw_number(p, page, &mut sheet, &book, raw as u8);
-        raw += 1;
+    read(out.rt, "one.sheet", &mut sheet)?;
+    read(out.rt, "one.book", &mut book)?;
+    for raw in 0..=u8::MAX {
+        out.count("FLVC ", "raw", raw as u64);
+        match reached::reached(&mut sheet, &book, raw) {
+            Some(c) => name_channel(out, Owner::Pane, c),
+            None => out.say(" no channel, or not the same for every content and curve"),
+        }
+        out.end();
     }
-    Ok(p)
+    Ok(())
 }
 
-fn say_channel(o: Out, page: &mut [u8; PAGE], material: bool, c: usize) -> Out {
-    if material {
-        return name_material_channel(o, page, c);
+// A row's channels by number and name, one a line.
+fn names(out: &mut Out, row: &str, owner: Owner, channels: usize) {
+    for c in 0..channels {
+        out.count(row, "channel", c as u64);
+        name_channel(out, owner, c);
+        out.end();
     }
-    name_pane_channel(o, page, c)
-}
-
-// A channel by number and name, on a line.
-fn say_row(o: Out, page: &mut [u8; PAGE], row: &[u8], material: bool, c: usize) -> Out {
-    let p = count(o, page, row, b"channel", c as u64);
-    end(say_channel(p, page, material, c), page)
-}
-
-// A row's channels.
-fn names(o: Out, page: &mut [u8; PAGE], row: &[u8], channels: usize, material: bool) -> Out {
-    let mut p = o;
-    let mut c = 0;
-    while c < channels {
-        p = say_row(p, page, row, material, c);
-        c += 1;
-    }
-    p
 }
 
 fn main(rt: HostRuntime) -> io::Result<()> {
-    let mut page = [0u8; PAGE];
-    let o = cli_page::fresh(rt, false, false, false);
-    let p = raw_numbers(o, &mut page)?;
-    let q = names(p, &mut page, b"pane ", PANE_CHANNELS, false);
-    let r = names(q, &mut page, b"material ", MATERIAL_CHANNELS, true);
-    cli_page::flush(r, &mut page);
+    let mut out = Out::new(rt, false, false, false);
+    raw_numbers(&mut out)?;
+    names(&mut out, "pane ", Owner::Pane, PANE_CHANNELS);
+    names(&mut out, "material ", Owner::Material, MATERIAL_CHANNELS);
+    out.flush();
     Ok(())
 }

@@ -13,23 +13,26 @@ const RAW: usize = 71;
 
 const CURVE: usize = 76;
 
-// The place of the only mark; PANE_CHANNELS where there is none or more than one.
-fn only(marks: &[u8; PANE_CHANNELS]) -> usize {
-    let mut place = PANE_CHANNELS;
-    let mut several = false;
-    let mut i = 0;
-    while i < PANE_CHANNELS {
-        if marks[i] != 0 {
-            several = place < i;
-            place = i;
-        }
-        i += 1;
+// The types of a pane's contents, and how many kinds of curves there are.
+const PANE: u8 = 0;
+
+const PANE_EXT: u8 = 3;
+
+const CURVES: u8 = 3;
+
+// The place of the only mark.
+fn only(marks: &[u8]) -> Option<usize> {
+    let is_set = |mark: &u8| *mark != 0;
+    let place = marks.iter().position(is_set);
+    if marks.iter().rposition(is_set) == place {
+        place
+    } else {
+        None
     }
-    if several { PANE_CHANNELS } else { place }
 }
 
-// The only channel that is overridden; PANE_CHANNELS where there is none or more than one. A call that is declined leaves every mark at 0.
-fn overridden(s: &[u8], b: &[u8]) -> usize {
+// The only channel that is overridden. A call that is declined leaves every mark at 0.
+fn overridden(s: &[u8], b: &[u8]) -> Option<usize> {
     let mut frames = [0.0f32; 1];
     let mut values = [0.0f32; 1];
     let mut slopes = [0.0f32; 1];
@@ -50,17 +53,22 @@ fn overridden(s: &[u8], b: &[u8]) -> usize {
     only(&marks)
 }
 
-fn with(s: &mut [u8; SHEET_BYTES], b: &[u8; BOOK_BYTES], kind: u8, curve: u8) -> usize {
+fn with(s: &mut [u8; SHEET_BYTES], b: &[u8; BOOK_BYTES], kind: u8, curve: u8) -> Option<usize> {
     s[TYPE] = kind;
     s[CURVE] = curve;
     overridden(s, b)
 }
 
-// The channel, from a content of type Pane and of type PaneExt and by each curve; PANE_CHANNELS where two of these differ.
-pub fn reached(s: &mut [u8; SHEET_BYTES], b: &[u8; BOOK_BYTES], raw: u8) -> usize {
+// The channel, from a content of type Pane and of type PaneExt and by each curve, where all of these reach the same.
+pub fn reached(s: &mut [u8; SHEET_BYTES], b: &[u8; BOOK_BYTES], raw: u8) -> Option<usize> {
     s[RAW] = raw;
-    let c = with(s, b, 0, 0);
-    let pane = (with(s, b, 0, 1) == c) & (with(s, b, 0, 2) == c);
-    let extended = (with(s, b, 3, 0) == c) & (with(s, b, 3, 1) == c) & (with(s, b, 3, 2) == c);
-    if pane & extended { c } else { PANE_CHANNELS }
+    let c = with(s, b, PANE, 0);
+    for kind in [PANE, PANE_EXT] {
+        for curve in 0..CURVES {
+            if with(s, b, kind, curve) != c {
+                return None;
+            }
+        }
+    }
+    c
 }

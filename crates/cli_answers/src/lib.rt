@@ -1,165 +1,75 @@
 // Makes a call and writes its answer behind what stands for the call: `ok` or `unchanged`, what was asked for, or why it is declined.
 #![tactic(auto)]
 
-mod edited;
+mod taken;
 
-ghost use Rattle.sheet.specs.Checked.{Checked};
-ghost use Rattle.book.specs.Checked.{CheckedBook};
-
-use cli_calls::{ABANDON, Call, DRAG, DROP, KEY, OPEN, PLAY, POSE, REDO, SLOPE, TICK, UNDO};
-use cli_page::{Out, PAGE, end, word};
+use cli_calls::{Call, Verb};
+use cli_facts::{Files, Keys, KeysMut, Menu};
+use cli_page::Out;
 use cli_why::say_declined;
-use edited::{edits, say_edit};
-use menu::{Edited, Played};
-use player::{Player, Tick};
-
-// The player after a call, and the output with its answer.
-#[derive(Clone, Copy)]
-pub struct Answered {
-    pub out: Out,
-    pub player: Player,
-}
-
-// An edit of a key, a drag or a drop.
-fn edit(
-    p: Player,
-    c: Call,
-    s: &[u8],
-    frames: &mut [f32],
-    values: &mut [f32],
-    slopes: &mut [f32],
-) -> Edited {
-    let verb = c.verb;
-    match verb {
-        KEY => menu::key_edit(p, s, frames, values, slopes, c.first, c.second, c.x, c.y),
-        SLOPE => menu::slope_edit(p, s, frames, values, slopes, c.first, c.second, c.x),
-        DRAG => menu::drag(p, s, frames, values, slopes, c.x, c.y),
-        _ => menu::drop_drag(p, s, frames, values, slopes),
-    }
-}
-
-// Another call that only changes the player or the keys.
-fn change(
-    p: Player,
-    c: Call,
-    s: &[u8],
-    frames: &mut [f32],
-    values: &mut [f32],
-    slopes: &mut [f32],
-) -> Played {
-    let verb = c.verb;
-    match verb {
-        PLAY => menu::play(p, s, c.first),
-        POSE => menu::pose(p, s, c.first, c.x),
-        UNDO => menu::undo(p, s, frames, values, slopes),
-        OPEN => menu::open_drag(p, s, frames, values, slopes, c.first, c.second),
-        ABANDON => menu::abandon_drag(p, s, frames, values, slopes),
-        _ => menu::redo(p, s, frames, values, slopes),
-    }
-}
-
-fn changes(verb: u8) -> bool {
-    (verb == PLAY)
-        | (verb == POSE)
-        | (verb == UNDO)
-        | (verb == REDO)
-        | (verb == OPEN)
-        | (verb == ABANDON)
-}
-
-fn say_tick(o: Out, page: &mut [u8; PAGE], s: &[u8], animation: u16, answer: Tick) -> Out {
-    match answer {
-        Tick::Idle => word(o, page, b" ", b"answer", b"idle"),
-        Tick::Running => word(o, page, b" ", b"answer", b"running"),
-        Tick::Ended => word(o, page, b" ", b"answer", b"ended"),
-        Tick::Next => {
-            let p = word(o, page, b" ", b"answer", b"ended");
-            cli_printed::name(p, page, b" next ", b"next", menu::next_name(s, animation))
-        }
-    }
-}
-
-fn tick<'a>(o: Out, page: &mut [u8; PAGE], p: Player, c: Call, s: &'a [u8], b: &'a [u8]) -> Answered
-    requires { Checked s.now × CheckedBook b.now }
-{
-    let t = menu::tick(p, s, c.x, c.y);
-    let player = t.player;
-    if t.refusal != 0 {
-        let out = say_declined(o, page, t.refusal, p.selection, c, s, b);
-        return Answered { out, player };
-    }
-    let answer = t.answer;
-    let out = say_tick(o, page, s, player.selection, answer);
-    Answered { out, player }
-}
-
-fn say_change<'a>(
-    o: Out,
-    page: &mut [u8; PAGE],
-    refusal: u8,
-    active: u16,
-    c: Call,
-    s: &'a [u8],
-    b: &'a [u8],
-) -> Out
-    requires { Checked s.now × CheckedBook b.now }
-{
-    if refusal != 0 {
-        return say_declined(o, page, refusal, active, c, s, b);
-    }
-    word(o, page, b" ", b"answer", b"ok")
-}
-
-// The answer of a call that may change something, without the line's end.
-fn changed<'a>(
-    o: Out,
-    page: &mut [u8; PAGE],
-    p: Player,
-    c: Call,
-    s: &'a [u8],
-    b: &'a [u8],
-    frames: &mut [f32],
-    values: &mut [f32],
-    slopes: &mut [f32],
-) -> Answered
-    requires { Checked s.now × CheckedBook b.now }
-{
-    if c.verb == TICK {
-        return tick(o, page, p, c, s, b);
-    }
-    if edits(c.verb) {
-        let r = edit(p, c, s, frames, values, slopes);
-        let player = r.player;
-        let out = say_edit(o, page, p, c, r, s, b, frames, values, slopes);
-        return Answered { out, player };
-    }
-    let r = change(p, c, s, frames, values, slopes);
-    let player = r.player;
-    let out = say_change(o, page, r.refusal, p.selection, c, s, b);
-    Answered { out, player }
-}
+use player::Player;
+use taken::{Edit, take, take_edit, take_tick};
 
 // Makes the call of a line; what stands for the call is written already.
-pub fn answer<'a>(
-    o: Out,
-    page: &mut [u8; PAGE],
+pub fn answer(
+    out: &mut Out,
     line: u64,
-    p: Player,
+    player: &mut Player,
     c: Call,
-    s: &'a [u8],
-    b: &'a [u8],
-    frames: &mut [f32],
-    values: &mut [f32],
-    slopes: &mut [f32],
-) -> Answered
-    requires { Checked s.now × CheckedBook b.now }
-{
-    if (c.verb == TICK) | edits(c.verb) | changes(c.verb) {
-        let a = changed(o, page, p, c, s, b, frames, values, slopes);
-        let player = a.player;
-        let out = end(a.out, page);
-        return Answered { out, player };
+    files: Files<'_>,
+    keys: KeysMut<'_>,
+) {
+    let KeysMut {
+        frames,
+        values,
+        slopes,
+    } = keys;
+    let p = *player;
+    let s = files.sheet.bytes;
+    let named = Edit::of(c.first, c.second);
+    let held = Edit::of(p.drag.track, p.drag.key);
+    let made = match c.verb {
+        Verb::Play => take(out, player, menu::play(p, s, c.first)),
+        Verb::Pose => take(out, player, menu::pose(p, s, c.first, c.x)),
+        Verb::Tick => take_tick(out, player, menu::tick(p, s, c.x, c.y), s),
+        Verb::Undo => take(out, player, menu::undo(p, s, frames, values, slopes)),
+        Verb::Redo => take(out, player, menu::redo(p, s, frames, values, slopes)),
+        Verb::Open => {
+            let made = menu::open_drag(p, s, frames, values, slopes, c.first, c.second);
+            take(out, player, made)
+        }
+        Verb::Abandon => {
+            let made = menu::abandon_drag(p, s, frames, values, slopes);
+            take(out, player, made)
+        }
+        Verb::Key => {
+            let made = menu::key_edit(p, s, frames, values, slopes, c.first, c.second, c.x, c.y);
+            let keys = Keys::new(frames, values, slopes);
+            take_edit(out, player, made, named.asking(c.x, c.y), files.sheet, keys)
+        }
+        Verb::Slope => {
+            let made = menu::slope_edit(p, s, frames, values, slopes, c.first, c.second, c.x);
+            let keys = Keys::new(frames, values, slopes);
+            take_edit(out, player, made, named, files.sheet, keys)
+        }
+        Verb::Drag => {
+            let made = menu::drag(p, s, frames, values, slopes, c.x, c.y);
+            let keys = Keys::new(frames, values, slopes);
+            take_edit(out, player, made, held.asking(c.x, c.y), files.sheet, keys)
+        }
+        Verb::Drop => {
+            let made = menu::drop_drag(p, s, frames, values, slopes);
+            let keys = Keys::new(frames, values, slopes);
+            take_edit(out, player, made, held, files.sheet, keys)
+        }
+        _ => {
+            let keys = Keys::new(frames, values, slopes);
+            cli_shown::show(out, line, &p, c, Menu { files, keys });
+            return;
+        }
+    };
+    if let Err(refusal) = made {
+        say_declined(out, refusal, p.selection, c, files);
     }
-    let out = cli_shown::show(o, page, line, p, c, s, b, frames, values, slopes);
-    Answered { out, player: p }
+    out.end();
 }

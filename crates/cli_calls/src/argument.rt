@@ -1,122 +1,99 @@
 // The arguments of a call.
 ghost use Rattle.std.specs.Prelude.{◌≤◌};
-ghost use Rattle.book.specs.Checked.{CheckedBook};
-ghost use Rattle.cli_calls.specs.Few.{Few};
 
-use crate::named::{material_named, pane_named};
-use crate::verb::{NAME, PLAY, POSE, READ_MATERIAL, READ_PANE, RESOLVE_PANE, RESOLVE_SRT, Verb};
-use cli_words::{Number, is_quoted, same, unquoted, word};
-
-// What a word answers that is missing, one that is no whole number below 65,536, and one that names no row or channel.
-pub const ABSENT: u32 = 65536;
-
-pub const UNREAD: u32 = 65537;
-
-pub const UNNAMED: u32 = 65538;
+use crate::named::Names;
+use crate::unread::{Fault, Unread};
+use crate::verb::{Form, Verb};
+use cli_printed::Owner;
+use cli_words::{is_quoted, unquoted, word};
 
 // The whole number that selects no animation.
-const NONE: u32 = 65535;
+const NONE: u16 = 65535;
 
-fn plain_whole(w: &[u8]) -> u32 {
-    let n = cli_words::whole(w);
-    if n >= 65536 {
-        return UNREAD;
+fn plain_whole(w: &[u8]) -> Result<u16, Fault> {
+    match cli_words::whole(w) {
+        Some(n) if n < 65536 => Ok(n as u16),
+        _ => Err(Fault::NoWhole),
     }
-    n as u32
 }
 
-// A pane's number, or its label; in quotes always a label.
-fn pane_word(b: &[u8], w: &[u8]) -> u32
-    requires { CheckedBook b.now }
-{
+// A pane's number, or its label; a material's number, or its name; in quotes always a name.
+fn row_word(owner: Owner, names: Names<'_>, w: &[u8]) -> Result<u16, Fault> {
     if !is_quoted(w) {
-        let n = plain_whole(w);
-        if n < ABSENT {
-            return n;
+        if let Ok(n) = plain_whole(w) {
+            return Ok(n);
         }
     }
-    pane_named(b, unquoted(w))
-}
-
-// A material's number, or its name.
-fn material_word(b: &[u8], w: &[u8]) -> u32
-    requires { CheckedBook b.now }
-{
-    if !is_quoted(w) {
-        let n = plain_whole(w);
-        if n < ABSENT {
-            return n;
-        }
-    }
-    material_named(b, unquoted(w))
-}
-
-fn channel_or(c: usize, count: usize, w: &[u8]) -> u32 {
-    if c < count {
-        if c < 65536 {
-            return c as u32;
-        }
-    }
-    let n = plain_whole(w);
-    if n < ABSENT { n } else { UNNAMED }
+    names.row(owner, unquoted(w)).ok_or(Fault::NoName)
 }
 
 // A channel's name, or its number.
-fn channel_word(w: &[u8], pane: bool) -> u32 {
-    if pane {
-        return channel_or(cli_printed::pane_channel(w), cli_printed::PANE_CHANNELS, w);
-    }
-    channel_or(
-        cli_printed::material_channel(w),
-        cli_printed::MATERIAL_CHANNELS,
-        w,
-    )
+fn channel_word(owner: Owner, w: &[u8]) -> Result<u16, Fault> {
+    let number = match cli_printed::channel(owner, w) {
+        Some(c) => u16::try_from(c).ok(),
+        None => plain_whole(w).ok(),
+    };
+    number.ok_or(Fault::NoName)
 }
 
 // An animation's number, or none.
-fn animation_word(w: &[u8]) -> u32 {
-    if same(w, b"none") {
-        return NONE;
+fn animation_word(w: &[u8]) -> Result<u16, Fault> {
+    if w == b"none".as_slice() {
+        Ok(NONE)
+    } else {
+        plain_whole(w)
     }
-    plain_whole(w)
 }
 
 // The first whole number of a call.
-fn first_word(b: &[u8], code: u8, w: &[u8]) -> u32
-    requires { CheckedBook b.now }
-{
-    match code {
-        PLAY | POSE => animation_word(w),
-        READ_PANE | RESOLVE_PANE => pane_word(b, w),
-        READ_MATERIAL | RESOLVE_SRT | NAME => material_word(b, w),
+fn first_whole(names: Names<'_>, verb: Verb, w: &[u8]) -> Result<u16, Fault> {
+    match verb {
+        Verb::Play | Verb::Pose => animation_word(w),
+        Verb::ReadPane | Verb::ResolvePane => row_word(Owner::Pane, names, w),
+        Verb::ReadMaterial | Verb::ResolveSrt | Verb::Name => row_word(Owner::Material, names, w),
         _ => plain_whole(w),
     }
 }
 
-// Whole number i of a call, 0 where it takes fewer.
-pub fn whole_word(line: &[u8], b: &[u8], v: Verb, i: usize) -> u32
-    requires { CheckedBook b.now × (Few v × (i ≤ 2)) }
-{
-    if i >= v.wholes {
-        return 0;
+// The second.
+fn second_whole(verb: Verb, w: &[u8]) -> Result<u16, Fault> {
+    match verb {
+        Verb::ReadPane => channel_word(Owner::Pane, w),
+        Verb::ReadMaterial => channel_word(Owner::Material, w),
+        _ => plain_whole(w),
     }
-    let w = word(line, v.from + i);
-    if w.len() == 0 {
-        return ABSENT;
-    }
-    if i == 0 {
-        return first_word(b, v.code, w);
-    }
-    if (v.code == READ_PANE) | (v.code == READ_MATERIAL) {
-        return channel_word(w, v.code == READ_PANE);
-    }
-    plain_whole(w)
 }
 
-// The number at word k, or 0 where none is asked for.
-pub fn number_word(line: &[u8], k: usize, asked: bool) -> Number {
-    if asked {
-        return cli_words::read_number(word(line, k));
+// A word that has to be there.
+fn asked<'a>(line: &'a [u8], place: usize) -> Result<&'a [u8], Unread> {
+    word(line, place).ok_or(Fault::Missing.at(place))
+}
+
+// Whole number i of a call, 0 where it takes fewer.
+pub fn whole_word(line: &[u8], names: Names<'_>, form: Form, i: usize) -> Result<u16, Unread>
+    requires { i ≤ 2 }
+{
+    if i >= form.wholes {
+        return Ok(0);
     }
-    Number::Is(0.0)
+    let place = form.from + i;
+    let w = asked(line, place)?;
+    let n = if i == 0 {
+        first_whole(names, form.verb, w)
+    } else {
+        second_whole(form.verb, w)
+    };
+    n.map_err(|fault| fault.at(place))
+}
+
+// Number i of a call, 0 where it takes fewer.
+pub fn number_word(line: &[u8], form: Form, i: usize) -> Result<f32, Unread>
+    requires { i ≤ 2 }
+{
+    if i >= form.numbers {
+        return Ok(0.0);
+    }
+    let place = form.from + form.wholes + i;
+    let w = asked(line, place)?;
+    cli_words::read_number(w).ok_or(Fault::NoNumber.at(place))
 }

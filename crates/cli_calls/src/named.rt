@@ -2,68 +2,46 @@
 ghost use Rattle.std.specs.Prelude.{◌≡◌, length};
 ghost use Rattle.book.specs.Checked.{CheckedBook};
 
-use laws::Found;
-
-// What a word answers that names no row.
-pub const NO_ROW: u32 = 65538;
+use cli_printed::Owner;
 
 const NAME_BYTES: usize = 24;
 
-// A word as a name's field: zeros at its end. One that is longer is no name; what is left of it then doesn't matter.
-fn field_of(w: &[u8]) -> [u8; NAME_BYTES]
-    ensures { 24 ≡ length result }
-{
+// A word as a name's field, with zeros at its end. One that is longer is no name.
+fn field_of(w: &[u8]) -> Option<[u8; NAME_BYTES]> {
     let mut field = [0u8; NAME_BYTES];
-    let mut i = 0;
-    while i < w.len() {
-        if i >= NAME_BYTES {
-            return field;
+    if w.len() > NAME_BYTES {
+        return None;
+    }
+    field[..w.len()].copy_from_slice(w);
+    Some(field)
+}
+
+// The names of a book's panes and materials.
+#[derive(Clone, Copy)]
+pub struct Names<'a> {
+    pub book: &'a [u8],
+    pub ghost checked: { CheckedBook book.now },
+}
+
+impl<'a> Names<'a> {
+    // The first row of a pane with this label, or of a material with this name.
+    fn find(self, owner: Owner, field: &[u8; NAME_BYTES]) -> Option<usize> {
+        let b = self.book;
+        match owner {
+            Owner::Pane => {
+                let rows = book::pane_count(b);
+                field::find_name(b, book::HEAD, book::PANE_BYTES, rows, field, 0)
+            }
+            Owner::Material => {
+                let rows = book::material_count(b);
+                let base = book::materials_at(b);
+                field::find_name(b, base, book::MATERIAL_BYTES, rows, field, 0)
+            }
         }
-        field[i] = w[i];
-        i += 1;
     }
-    field
-}
 
-fn row_of(f: Found) -> u32 {
-    match f {
-        Found::At(i) => { if i < 65536 { i as u32 } else { NO_ROW } }
-        Found::Nothing => NO_ROW,
+    // The number of the row that a word names.
+    pub fn row(self, owner: Owner, w: &[u8]) -> Option<u16> {
+        u16::try_from(self.find(owner, &field_of(w)?)?).ok()
     }
-}
-
-// The pane with this label.
-pub fn pane_named(b: &[u8], w: &[u8]) -> u32
-    requires { CheckedBook b.now }
-{
-    if w.len() > NAME_BYTES {
-        return NO_ROW;
-    }
-    let field = field_of(w);
-    row_of(field::find_name(
-        b,
-        book::HEAD,
-        book::PANE_BYTES,
-        book::pane_count(b),
-        &field,
-        0,
-    ))
-}
-
-// The material with this name.
-pub fn material_named(b: &[u8], w: &[u8]) -> u32
-    requires { CheckedBook b.now }
-{
-    if w.len() > NAME_BYTES {
-        return NO_ROW;
-    }
-    let field = field_of(w);
-    row_of(field::find_name(
-        b,
-        book::materials_at(b),
-        book::MATERIAL_BYTES,
-        book::material_count(b),
-        &field,
-        0,
-    ))
 }

@@ -2,47 +2,44 @@
 // command line: each case with a heading, what it is answered, and what it came to. Errors stand in line here, since only standard output is compared.
 #![tactic(auto)]
 
-use cli_page::{Out, PAGE, say};
+use cli_page::Out;
+use cli_words::Pieces;
 use std::fs::File;
 use std::io;
 use std::io::Read;
 
-// The words of a case.
-fn say_words(o: Out, page: &mut [u8; PAGE], line: &[u8]) -> Out {
-    let n = cli_words::pieces(line);
-    let mut p = o;
-    let mut i = 0;
-    while i < n {
-        p = say(say(p, page, b" "), page, cli_words::piece(line, i));
-        i += 1;
+// The output of a case, which begins with its words.
+fn begin(rt: HostRuntime, line: &[u8]) -> Out {
+    let mut out = Out::new(rt, false, false, false);
+    out.say("== menu_cli");
+    for word in Pieces::new(line) {
+        out.say(" ");
+        out.say_bytes(word);
     }
-    p
+    out
 }
 
-fn run<R: Read>(from: &mut R, o: Out, page: &mut [u8; PAGE], line: &[u8]) {
-    let p = cli_console::run(from, say(o, page, b"\n"), page, line);
-    let q = Out { json: false, ..p };
-    let r = cli_page::count(q, page, b"status ", b"status", p.status as u64);
-    cli_page::flush(cli_page::end(r, page), page);
+fn run<R: Read>(from: &mut R, mut out: Out, line: &[u8]) {
+    out.say("\n");
+    cli_console::run(from, &mut out, line);
+    let status = out.status as u64;
+    out.json = false;
+    out.count("status ", "status", status);
+    out.end();
+    out.flush();
 }
 
 fn case(rt: HostRuntime, line: &[u8]) {
-    let mut page = [0u8; PAGE];
-    let o = cli_page::fresh(rt, false, false, false);
-    let p = say(o, &mut page, b"== menu_cli");
-    let q = say_words(p, &mut page, line);
-    run(&mut io::empty(), q, &mut page, line);
+    run(&mut io::empty(), begin(rt, line), line);
 }
 
 // A case with a list of calls in the place of standard input, as a shell's `<` has it.
 fn list(rt: HostRuntime, line: &[u8], calls: &str) -> io::Result<()> {
-    let mut page = [0u8; PAGE];
-    let o = cli_page::fresh(rt, false, false, false);
-    let p = say(o, &mut page, b"== menu_cli");
-    let q = say_words(p, &mut page, line);
-    let r = say(say(q, &mut page, b" < "), &mut page, calls.as_bytes());
+    let mut out = begin(rt, line);
+    out.say(" < ");
+    out.say(calls);
     let mut from = File::open(&rt, calls)?;
-    run(&mut from, r, &mut page, line);
+    run(&mut from, out, line);
     Ok(())
 }
 

@@ -1,150 +1,85 @@
 // The words of a command line, each ended by a zero byte, which no argument has. Options may stand anywhere among them.
-ghost use Rattle.std.specs.Prelude.{◌≤◌, length};
+ghost use Rattle.std.specs.Prelude.{◌≤◌, length, IfSome};
+ghost use Rattle.std.specs.Iterator.{at_most};
 ghost use Rattle.io.specs.Counts.{IsPrefixLen};
 
-use cli_words::{piece, pieces, same};
+use cli_words::Pieces;
 use std::env::FillError;
 use std::rt::Env;
 
-const MINUS: u8 = 45;
-
 // Whether a word is an option: -h, or one that begins with two minus signs.
 pub fn is_option(w: &[u8]) -> bool {
-    if w.len() < 2 {
-        return false;
-    }
-    if w[0] != MINUS {
-        return false;
-    }
-    (w[1] == MINUS) | same(w, b"-h")
+    matches!(w, b"-h" | [b'-', b'-', ..])
 }
 
 fn is_known(w: &[u8]) -> bool {
-    same(w, b"--json")
-        | same(w, b"--quiet")
-        | same(w, b"--help")
-        | same(w, b"-h")
-        | same(w, b"--version")
+    matches!(w, b"--json" | b"--quiet" | b"--help" | b"-h" | b"--version")
 }
 
-pub fn has_option(line: &[u8], option: &[u8]) -> bool {
-    let n = pieces(line);
-    let mut i = 0;
-    while i < n {
-        if same(piece(line, i), option) {
-            return true;
-        }
-        i += 1;
-    }
-    false
+pub fn has_option(line: &[u8], option: &str) -> bool {
+    Pieces::new(line).any(|w| w == option.as_bytes())
 }
 
-// The first option that there isn't, or nothing.
-pub fn unknown_option<'a>(line: &'a [u8]) -> &'a [u8] {
-    let n = pieces(line);
-    let mut i = 0;
-    while i < n {
-        let w = piece(line, i);
-        if is_option(w) & !is_known(w) {
-            return w;
-        }
-        i += 1;
-    }
-    &line[..0]
+// The first option that there isn't.
+pub fn unknown_option<'a>(line: &'a [u8]) -> Option<&'a [u8]> {
+    Pieces::new(line).find(|w| is_option(w) & !is_known(w))
 }
 
 // Whether a word is empty.
 pub fn has_empty(line: &[u8]) -> bool {
-    let n = pieces(line);
-    let mut i = 0;
-    while i < n {
-        if piece(line, i).len() == 0 {
-            return true;
+    Pieces::new(line).any(|w| w.is_empty())
+}
+
+// The words that are no options, the first of which is the command's name.
+#[derive(Drop)]
+pub struct Arguments<'a> {
+    pub pieces: Pieces<'a>,
+}
+
+impl<'a> Arguments<'a> {
+    pub fn new(line: &'a [u8]) -> Arguments<'a> {
+        Arguments {
+            pieces: Pieces::new(line),
         }
-        i += 1;
     }
-    false
 }
 
-// Which piece is word number k, where options are not counted.
-pub fn argument_place(line: &[u8], k: usize) -> usize {
-    let n = pieces(line);
-    let mut seen = 0;
-    let mut next = 0;
-    while next < n {
-        let i = next;
-        next += 1;
-        if is_option(piece(line, i)) {
-            continue;
-        }
-        if seen == k {
-            return i;
-        }
-        seen += 1;
+impl<'a> Iterator for Arguments<'a> {
+    type Item = &'a [u8];
+
+    ghost remaining = { λ s. at_most (length s.pieces.rest.now) };
+
+    fn next(&mut self) -> Option<&'a [u8]> {
+        self.pieces.find(|w| !is_option(w))
     }
-    n
 }
 
-// Word number k, the command's name being 0, or nothing.
-pub fn argument<'a>(line: &'a [u8], k: usize) -> &'a [u8] {
-    piece(line, argument_place(line, k))
-}
-
-// How many words a piece is.
-fn counted(w: &[u8]) -> usize
-    ensures { result ≤ 1 }
-{
-    if is_option(w) { 0 } else { 1 }
+// Word number k, the command's name being 0; an empty one counts as none.
+pub fn argument<'a>(line: &'a [u8], k: usize) -> Option<&'a [u8]> {
+    Arguments::new(line).nth(k).filter(|w| !w.is_empty())
 }
 
 // How many words there are, options apart.
 pub fn argument_count(line: &[u8]) -> usize {
-    let n = pieces(line);
-    let mut seen = 0;
-    let mut i = 0;
-    while i < n {
-        seen += counted(piece(line, i));
-        i += 1;
-    }
-    seen
+    Arguments::new(line).count()
 }
 
-// How many arguments there are, the program's own name among them.
-fn arg_count(rt: HostRuntime) -> usize {
-    for i in 0..usize::MAX {
-        if let Err(FillError::NotPresent) = rt.arg(i, &mut []) {
-            return i;
-        }
-    }
-    usize::MAX
-}
-
-// Puts argument i and a zero byte at a place, and answers the next, or the length where there is no room.
-fn put(rt: HostRuntime, out: &mut [u8], at: usize, i: usize) -> usize
-    requires { at ≤ length out.old }
-    ensures { result ≤ length out.old }
+// Puts the arguments from number `first` on into the room, each with a zero byte behind it, where they leave a byte free.
+pub fn join(rt: HostRuntime, room: &mut [u8], first: usize) -> Option<usize>
+    ensures { IfSome result (λ n. IsPrefixLen n room.new) }
 {
-    let Ok(n) = rt.arg(i, &mut out[at..]) else {
-        return out.len();
-    };
-    let end = at + n;
-    if end < out.len() {
-        out[end] = 0;
-        return end + 1;
-    }
-    out.len()
-}
-
-// The arguments from number `first` on; the length of out where there is no room for them.
-pub fn join(rt: HostRuntime, out: &mut [u8], first: usize) -> usize
-    ensures { IsPrefixLen result out.new }
-{
-    let count = arg_count(rt);
     let mut at = 0;
-    let mut i = first;
-    while i < count {
-        at = put(rt, out, at, i);
-        i += 1;
+    for i in first..usize::MAX {
+        let end = match rt.arg(i, &mut room[at..]) {
+            Ok(n) => at + n,
+            Err(FillError::NotPresent) => return Some(at),
+            Err(FillError::TooLong) => return None,
+        };
+        if end + 1 >= room.len() {
+            return None;
+        }
+        room[end] = 0;
+        at = end + 1;
     }
-    at
+    None
 }

@@ -1,46 +1,52 @@
 // What is said where a command line is wrong or a file can't be used. Every such line begins with `error: `, and the command came to 2.
-use cli_page::{Out, PAGE, WRONG, bytes, word};
+use cli_page::{Out, Status};
 
 // An error begins: what was said before goes out first, since an error may go elsewhere.
-pub fn begin_error(o: Out, page: &mut [u8; PAGE]) -> Out {
-    let p = cli_page::begin(cli_page::flush(o, page), page);
-    cli_page::lead(p, page, b"error: ")
+pub fn begin_error(out: &mut Out) {
+    out.flush();
+    out.begin();
+    out.lead("error: ");
 }
 
 // An error ends.
-pub fn end_error(o: Out, page: &mut [u8; PAGE]) -> Out {
-    let p = cli_page::end(o, page);
-    cli_page::came_to(cli_page::flush_error(p, page), WRONG)
+pub fn end_error(out: &mut Out) {
+    out.end();
+    out.flush_error();
+    out.came_to(Status::Wrong);
+}
+
+// What is wrong with a text from outside, which is a `thing`.
+fn error_of(out: &mut Out, thing: &str, text: &[u8], what: &str) {
+    begin_error(out);
+    out.bytes("", thing, text);
+    out.word(": ", "error", what);
+    end_error(out);
 }
 
 // What is wrong with a file.
-pub fn file_error(o: Out, page: &mut [u8; PAGE], path: &[u8], what: &[u8]) -> Out {
-    let p = bytes(begin_error(o, page), page, b"", b"file", path);
-    end_error(word(p, page, b": ", b"error", what), page)
+pub fn file_error(out: &mut Out, path: &[u8], what: &str) {
+    error_of(out, "file", path, what);
 }
 
 // What is wrong with a word.
-pub fn word_error(o: Out, page: &mut [u8; PAGE], text: &[u8], what: &[u8]) -> Out {
-    let p = bytes(begin_error(o, page), page, b"", b"word", text);
-    end_error(word(p, page, b": ", b"error", what), page)
+pub fn word_error(out: &mut Out, text: &[u8], what: &str) {
+    error_of(out, "word", text, what);
 }
 
 // An argument that a command needs and that isn't there.
-pub fn missing(o: Out, page: &mut [u8; PAGE], what: &[u8]) -> Out {
+pub fn missing(out: &mut Out, what: &str) {
     word_error(
-        o,
-        page,
-        what,
-        b"is missing; menu_cli help says what a command takes",
-    )
+        out,
+        what.as_bytes(),
+        "is missing; menu_cli help says what a command takes",
+    );
 }
 
 // A word that stands after the last that a command takes.
-pub fn too_many(o: Out, page: &mut [u8; PAGE], text: &[u8]) -> Out {
+pub fn too_many(out: &mut Out, text: &[u8]) {
     word_error(
-        o,
-        page,
+        out,
         text,
-        b"is one word too many; menu_cli help says what a command takes",
-    )
+        "is one word too many; menu_cli help says what a command takes",
+    );
 }

@@ -9,11 +9,10 @@ mod span;
 mod told;
 
 pub use arguments::{
-    argument, argument_count, argument_place, has_empty, has_option, is_option, join,
-    unknown_option,
+    Arguments, argument, argument_count, has_empty, has_option, is_option, join, unknown_option,
 };
 pub use errors::{begin_error, end_error, file_error, missing, too_many, word_error};
-pub use file::{Got, LONGEST, NOT_OPENED, NOT_WHOLE, read, try_read, write};
+pub use file::{LONGEST, Unusable, Unwritten, read, try_read, write};
 pub use help::{say_version, usage};
-pub use span::{Span, Whole, span_of, whole_argument};
+pub use span::{span_of, whole_argument};
 pub use told::{progress, progress_end};

@@ -1,98 +1,44 @@
 // Whole numbers of a command line, and the frames from one to another.
-ghost use Rattle.std.specs.Prelude.{◌≤◌};
+ghost use Rattle.std.specs.Prelude.{◌<◌, IfSome};
 
 use crate::arguments::argument;
-use crate::errors::{begin_error, end_error, missing};
-use cli_page::{Out, PAGE, bytes, word};
-use cli_words::TOO_LARGE;
+use crate::errors::{begin_error, end_error, missing, word_error};
+use cli_page::Out;
+use std::ops::Range;
 
-// A whole number, and 2^24 where there is none, which is told.
-#[derive(Clone, Copy)]
-pub struct Whole {
-    pub out: Out,
-    pub n: u64,
+fn no_whole(out: &mut Out, what: &str, text: &[u8]) {
+    begin_error(out);
+    out.word("", "argument", what);
+    out.bytes(": ", "word", text);
+    out.word(": ", "error", "is no whole number below 16,777,216");
+    end_error(out);
 }
 
-// The frames from `from` up to `end`, which is not one of them; `bad` where what was asked for is wrong, which is told.
-#[derive(Clone, Copy)]
-pub struct Span {
-    pub out: Out,
-    pub bad: bool,
-    pub from: u32,
-    pub end: u32,
-}
-
-fn no_whole(o: Out, page: &mut [u8; PAGE], what: &[u8], text: &[u8]) -> Out {
-    let p = word(begin_error(o, page), page, b"", b"argument", what);
-    let q = bytes(p, page, b": ", b"word", text);
-    end_error(
-        word(
-            q,
-            page,
-            b": ",
-            b"error",
-            b"is no whole number below 16,777,216",
-        ),
-        page,
-    )
-}
-
-// The whole number at word k.
-pub fn whole_argument(o: Out, page: &mut [u8; PAGE], line: &[u8], k: usize, what: &[u8]) -> Whole
-    ensures { result.n ≤ 16777216 }
+// The whole number at word k; where there is none, that is told.
+pub fn whole_argument(out: &mut Out, line: &[u8], k: usize, what: &str) -> Option<u32>
+    ensures { IfSome result (λ n. n < 16777216) }
 {
-    let text = argument(line, k);
-    if text.len() == 0 {
-        return Whole {
-            out: missing(o, page, what),
-            n: TOO_LARGE,
-        };
-    }
+    let Some(text) = argument(line, k) else {
+        missing(out, what);
+        return None;
+    };
     let n = cli_words::whole(text);
-    if n >= TOO_LARGE {
-        return Whole {
-            out: no_whole(o, page, what, text),
-            n,
-        };
+    if n.is_none() {
+        no_whole(out, what, text);
     }
-    Whole { out: o, n }
+    n
 }
 
-fn bad(out: Out) -> Span {
-    Span {
-        out,
-        bad: true,
-        from: 0,
-        end: 0,
+// The frames that words 4 and 5 ask for, both ends among them, or all of the animation's; where what was asked for is wrong, that is told.
+pub fn span_of(out: &mut Out, line: &[u8], count: u32) -> Option<Range<u32>> {
+    if argument(line, 4).is_none() {
+        return Some(0..count);
     }
-}
-
-// The frames that words 4 and 5 ask for, both ends among them, or all of the animation's.
-pub fn span_of(o: Out, page: &mut [u8; PAGE], line: &[u8], count: u32) -> Span {
-    if argument(line, 4).len() == 0 {
-        return Span {
-            out: o,
-            bad: false,
-            from: 0,
-            end: count,
-        };
+    let from = whole_argument(out, line, 4, "FROM")?;
+    let to = whole_argument(out, line, 5, "TO")?;
+    if to < from {
+        word_error(out, b"FROM", "is above TO");
+        return None;
     }
-    let from = whole_argument(o, page, line, 4, b"FROM");
-    if from.n >= TOO_LARGE {
-        return bad(from.out);
-    }
-    let to = whole_argument(from.out, page, line, 5, b"TO");
-    if to.n >= TOO_LARGE {
-        return bad(to.out);
-    }
-    if to.n < from.n {
-        return bad(crate::errors::word_error(to.out, page, b"FROM", b"is above TO"));
-    }
-    let out = to.out;
-    Span {
-        out,
-        bad: false,
-        from: from.n as u32,
-        end: to.n as u32 + 1,
-    }
+    Some(from..to + 1)
 }

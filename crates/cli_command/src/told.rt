@@ -4,31 +4,27 @@ ghost use Rattle.std.specs.Prelude.{◌<◌};
 use cli_page::Out;
 use std::io::{Print, Result};
 
-fn say_done(o: Out, done: u64, total: u64, things: &[u8]) -> Result<()> {
-    let to = o.rt.stderr();
+fn say_done(out: &Out, done: u64, total: Option<u64>, things: &str) -> Result<()> {
+    let to = out.rt.stderr();
     to.print(format_args!("\r{done}"))?;
-    if total > 0 {
+    if let Some(total) = total {
         to.print(format_args!(" of {total}"))?;
     }
-    to.write_all(things)
+    to.print(things)
 }
 
-// `N of TOTAL things`, over what stood there before, each time `every` more are done. A total of 0 is not known.
-pub fn progress(o: Out, done: u64, total: u64, every: u64, things: &[u8])
+// `N of TOTAL things`, over what stood there before, each time `every` more are done. The total may not be known.
+pub fn progress(out: &Out, done: u64, total: Option<u64>, every: u64, things: &str)
     requires { 0 < every }
 {
-    if !o.told {
-        return;
+    if out.told & (done % every == 0) {
+        let _ = say_done(out, done, total, things);
     }
-    if done % every != 0 {
-        return;
-    }
-    let _ = say_done(o, done, total, things);
 }
 
 // The last of it stays, on a line of its own.
-pub fn progress_end(o: Out, done: u64, every: u64) {
-    if o.told & (done >= every) {
-        let _ = o.rt.stderr().write_all(b"\n");
+pub fn progress_end(out: &Out, done: u64, every: u64) {
+    if out.told & (done >= every) {
+        let _ = out.rt.stderr().write_all(b"\n");
     }
 }

@@ -1,149 +1,85 @@
 // The command `check`: each file a sheet by loading it (rows 1, 3 and 4 of the table), or a book by its layout (row 2).
-use crate::open::load_refusal;
-use cli_command::{LONGEST, is_option, missing, read, try_read};
-use cli_faults::say_verdict;
-use cli_page::{Out, PAGE};
-use cli_words::{piece, pieces};
+use crate::open::loadable;
+use cli_command::{Arguments, LONGEST, argument_count, missing, read, try_read};
+use cli_facts::{Book, Files, Sheet};
+use cli_faults::{Declined, say_verdict};
+use cli_page::Out;
 use laws::refusal::BOOK_LAYOUT;
 
-// Whether a path ends as books' names do.
-fn names_book(path: &[u8]) -> bool {
-    let n = path.len();
-    if n < 5 {
-        return false;
-    }
-    let at = n - 5;
-    cli_words::same(&path[at..], b".book")
-}
-
-fn names_sheet(path: &[u8]) -> bool {
-    let n = path.len();
-    if n < 6 {
-        return false;
-    }
-    let at = n - 6;
-    cli_words::same(&path[at..], b".sheet")
-}
-
 // What a file is taken for: what its name ends with says, and else a book where it is one.
-pub fn is_book(path: &[u8], bytes: &[u8]) -> bool {
-    if names_book(path) {
-        return true;
-    }
-    if names_sheet(path) {
-        return false;
-    }
-    book::book_ok(bytes)
+fn is_book(path: &[u8], bytes: &[u8]) -> bool {
+    path.ends_with(b".book") || (!path.ends_with(b".sheet") && book::book_ok(bytes))
 }
 
-fn book_refusal(b: &[u8]) -> u8 {
-    if book::book_ok(b) {
-        return 0;
+fn end(out: &mut Out, hint: Option<&str>) {
+    if let Some(hint) = hint {
+        out.word("; ", "hint", hint);
     }
-    BOOK_LAYOUT
+    out.end();
 }
 
 // A line for a file that is taken for a sheet.
-pub fn say_sheet(o: Out, page: &mut [u8; PAGE], path: &[u8], s: &[u8]) -> Out {
-    let p = say_verdict(
-        o,
-        page,
-        path,
-        b"sheet",
-        load_refusal(s),
-        faults::load_fault(s),
-    );
-    if book::book_ok(s) {
-        return cli_page::end(
-            cli_page::word(p, page, b"; ", b"hint", b"it is a book"),
-            page,
-        );
-    }
-    cli_page::end(p, page)
+pub fn say_sheet(out: &mut Out, path: &[u8], bytes: &[u8]) {
+    let verdict = match loadable(bytes) {
+        Ok(_) => Ok(()),
+        Err(refusal) => Err(Declined {
+            refusal,
+            fault: faults::load_fault(bytes),
+        }),
+    };
+    say_verdict(out, path, "sheet", verdict);
+    end(out, book::book_ok(bytes).then_some("it is a book"));
 }
 
 // A line for a file that is taken for a book.
-pub fn say_book(o: Out, page: &mut [u8; PAGE], path: &[u8], b: &[u8]) -> Out {
-    let p = say_verdict(
-        o,
-        page,
-        path,
-        b"book",
-        book_refusal(b),
-        faults::book_fault(b),
-    );
-    if sheet::sheet_ok(b) {
-        return cli_page::end(
-            cli_page::word(p, page, b"; ", b"hint", b"it is a sheet"),
-            page,
-        );
-    }
-    cli_page::end(p, page)
+pub fn say_book(out: &mut Out, path: &[u8], bytes: &[u8]) {
+    let verdict = match Book::new(bytes) {
+        Some(_) => Ok(()),
+        None => Err(Declined {
+            refusal: BOOK_LAYOUT,
+            fault: faults::book_fault(bytes),
+        }),
+    };
+    say_verdict(out, path, "book", verdict);
+    end(out, sheet::sheet_ok(bytes).then_some("it is a sheet"));
 }
 
-// Warnings where the file that was named before the book is a sheet.
-fn held_against(o: Out, page: &mut [u8; PAGE], before: &[u8], b: &[u8]) -> Out {
+// Warnings where the file that was named before a book is a sheet.
+fn hold_against(out: &mut Out, before: &[u8], book: &[u8]) {
     let mut bytes = [0u8; LONGEST];
-    let n = try_read(o.rt, before, &mut bytes).n;
-    warnings(o, page, before, &bytes[..n], b)
-}
-
-fn warnings(o: Out, page: &mut [u8; PAGE], before: &[u8], s: &[u8], b: &[u8]) -> Out {
-    if !sheet::sheet_ok(s) {
-        return o;
+    let Ok(n) = try_read(out.rt, before, &mut bytes) else {
+        return;
+    };
+    if let (Some(sheet), Some(book)) = (Sheet::new(&bytes[..n]), Book::new(book)) {
+        cli_info::say_unreached(out, before, Files { sheet, book });
     }
-    if !book::book_ok(b) {
-        return o;
-    }
-    cli_info::say_unreached(o, page, before, s, b)
-}
-
-fn say_file(o: Out, page: &mut [u8; PAGE], path: &[u8], before: &[u8], bytes: &[u8]) -> Out {
-    if is_book(path, bytes) {
-        let p = say_book(o, page, path, bytes);
-        return held_against(p, page, before, bytes);
-    }
-    say_sheet(o, page, path, bytes)
 }
 
 // The verdict on one file, with the one that was named before it.
-fn check_file(o: Out, page: &mut [u8; PAGE], path: &[u8], before: &[u8]) -> Out {
+fn check_file(out: &mut Out, path: &[u8], before: Option<&[u8]>) {
     let mut bytes = [0u8; LONGEST];
-    let got = read(o, page, path, &mut bytes);
-    let n = got.n;
-    if n == 0 {
-        return got.out;
+    let Some(n) = read(out, path, &mut bytes) else {
+        return;
+    };
+    let bytes = &bytes[..n];
+    if !is_book(path, bytes) {
+        say_sheet(out, path, bytes);
+        return;
     }
-    say_file(got.out, page, path, before, &bytes[..n])
+    say_book(out, path, bytes);
+    if let Some(before) = before {
+        hold_against(out, before, bytes);
+    }
 }
 
-// The word at a place, which is a file's name or an option.
-fn check_piece(o: Out, page: &mut [u8; PAGE], line: &[u8], i: usize, last: usize) -> Out {
-    let path = piece(line, i);
-    if is_option(path) {
-        return o;
+pub fn check(out: &mut Out, line: &[u8]) {
+    if argument_count(line) < 2 {
+        missing(out, "FILE");
+        return;
     }
-    check_file(o, page, path, piece(line, last))
-}
-
-// The last place up to i that has a file's name.
-fn last_file(line: &[u8], i: usize, last: usize) -> usize {
-    if is_option(piece(line, i)) { last } else { i }
-}
-
-pub fn check(o: Out, page: &mut [u8; PAGE], line: &[u8]) -> Out {
-    if cli_command::argument_count(line) < 2 {
-        return missing(o, page, b"FILE");
+    let mut before = None;
+    for path in Arguments::new(line).skip(1) {
+        check_file(out, path, before);
+        before = Some(path);
     }
-    let n = pieces(line);
-    let mut p = o;
-    let mut last = n;
-    let mut next = cli_command::argument_place(line, 1);
-    while next < n {
-        let i = next;
-        next += 1;
-        p = check_piece(p, page, line, i, last);
-        last = last_file(line, i, last);
-    }
-    p
 }

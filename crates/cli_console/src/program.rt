@@ -1,5 +1,5 @@
 // The whole program: its arguments, its output, and what it came to.
-use cli_page::{Out, PAGE, WRONG};
+use cli_page::{Out, Status};
 use std::io::{IsTerminal, Print};
 
 // C's EBADF: there is no open file of that number.
@@ -14,53 +14,38 @@ fn is_open<P: Print>(to: &P) -> bool {
 }
 
 // What is said where nothing can be answered: it goes straight to standard error.
-fn complain(rt: HostRuntime, text: &[u8]) {
-    let _ = rt.stderr().write_all(text);
-}
-
-// What is on the page goes out. Output that was lost is no success.
-fn finish(o: Out, page: &mut [u8; PAGE]) -> u8 {
-    let p = cli_page::flush(o, page);
-    if !p.lost {
-        return p.status;
-    }
-    complain(o.rt, b"error: standard output: cannot be written whole\n");
-    WRONG
+fn complain(rt: HostRuntime, what: &str) -> Status {
+    let _ = rt.stderr().print(format_args!("error: {what}\n"));
+    Status::Wrong
 }
 
 // Progress is for someone who looks on, and not in the midst of the output.
 fn shows_progress(rt: HostRuntime, line: &[u8]) -> bool {
-    if cli_command::has_option(line, b"--quiet") {
-        return false;
-    }
-    rt.stderr().is_terminal() & !rt.stdout().is_terminal()
+    !cli_command::has_option(line, "--quiet")
+        & rt.stderr().is_terminal()
+        & !rt.stdout().is_terminal()
 }
 
-fn run_line(rt: HostRuntime, page: &mut [u8; PAGE], line: &[u8]) -> u8 {
-    let o = cli_page::fresh(rt, false, true, shows_progress(rt, line));
-    finish(crate::run(&mut rt.stdin(), o, page, line), page)
-}
-
-fn run_arguments(rt: HostRuntime) -> u8 {
-    let mut page = [0u8; PAGE];
-    let mut line = [0u8; 65536];
-    let n = cli_command::join(rt, &mut line, 1);
-    if n == 65536 {
-        complain(
-            rt,
-            b"error: the arguments are longer than 65,535 bytes together\n",
-        );
-        return WRONG;
+// Output that was lost is no success.
+fn run_line(rt: HostRuntime, line: &[u8]) -> Status {
+    let mut out = Out::new(rt, false, true, shows_progress(rt, line));
+    crate::run(&mut rt.stdin(), &mut out, line);
+    out.flush();
+    if out.lost {
+        return complain(rt, "standard output: cannot be written whole");
     }
-    run_line(rt, &mut page, &line[..n])
+    out.status
 }
 
 // The command that the arguments are, and what it came to: the program's exit status. With no standard output nothing is done, since the first file that is
 // opened would stand in its place.
-pub fn start(rt: HostRuntime) -> u8 {
+pub fn start(rt: HostRuntime) -> Status {
     if !is_open(&rt.stdout()) {
-        complain(rt, b"error: standard output: is closed\n");
-        return WRONG;
+        return complain(rt, "standard output: is closed");
     }
-    run_arguments(rt)
+    let mut line = [0u8; 65536];
+    match cli_command::join(rt, &mut line, 1) {
+        Some(n) => run_line(rt, &line[..n]),
+        None => complain(rt, "the arguments are longer than 65,535 bytes together"),
+    }
 }

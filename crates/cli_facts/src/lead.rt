@@ -1,26 +1,39 @@
 // What stands in front of each fact.
-use cli_page::{Out, PAGE, count};
+use cli_page::Out;
 
 // The frame that shows it, or the line of the call that asked for it.
-#[derive(Clone, Copy)]
+#[derive(Clone, Copy, Debug)]
 pub enum Lead {
     Frame(u64),
     Line(u64),
 }
 
 // The line of a list that a fact answers: in text it is told once, above the facts.
-pub fn say_line(o: Out, page: &mut [u8; PAGE], n: u64) -> Out {
-    if o.json {
-        return count(o, page, b"", b"line", n);
+pub fn say_line(out: &mut Out, n: u64) {
+    if out.json {
+        out.count("", "line", n);
+    } else {
+        out.lead("  ");
     }
-    cli_page::lead(o, page, b"  ")
 }
 
-// A fact begins.
-pub fn begin(o: Out, page: &mut [u8; PAGE], lead: Lead) -> Out {
-    let p = cli_page::begin(o, page);
-    match lead {
-        Lead::Frame(n) => cli_page::lead(count(p, page, b"frame ", b"frame", n), page, b" "),
-        Lead::Line(n) => say_line(p, page, n),
+impl Lead {
+    // A fact begins.
+    pub fn begin(self, out: &mut Out) {
+        out.begin();
+        match self {
+            Lead::Frame(n) => {
+                out.count("frame ", "frame", n);
+                out.lead(" ");
+            }
+            Lead::Line(n) => say_line(out, n),
+        }
+    }
+
+    // In place of all facts, why there are none.
+    pub fn say_refusal(self, out: &mut Out, refusal: u8) {
+        self.begin(out);
+        cli_printed::refusal(out, "", refusal);
+        out.end();
     }
 }

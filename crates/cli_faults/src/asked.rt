@@ -1,130 +1,78 @@
 // What a rule asks of a field.
-use cli_page::{Out, PAGE, count, word};
+use cli_page::Out;
 use faults::{Fault, rules};
 
 // The f32 of a pattern, which has 32 bits.
 pub fn float_of(bits: usize) -> f32 {
-    if bits >= 4294967296 {
-        return 0.0;
+    match u32::try_from(bits) {
+        Ok(bits) => cli_words::pattern(bits),
+        Err(_) => 0.0,
     }
-    cli_words::pattern(bits as u32)
 }
 
-fn may(o: Out, page: &mut [u8; PAGE], text: &[u8]) -> Out {
-    word(o, page, b", may be ", b"may_be", text)
+// What a field may be, where that is the same in every file.
+fn may_of(rule: u8) -> &'static str {
+    match rule {
+        rules::SHEET_SHORT => "12 or more",
+        rules::ANIMATIONS_RANGE => "1 to 8",
+        rules::CONTENTS_RANGE | rules::TEXTURES_RANGE => "0 to 64",
+        rules::TARGETS_RANGE => "0 to 256",
+        rules::KEYS_RANGE => "0 to 2,048",
+        rules::LOOPING | rules::NEXT_PRESENT => "0 or 1",
+        rules::NEXT_ABSENT => "0, since there is no next",
+        rules::CONTENT_TYPE => "0 to 4",
+        rules::TARGET_CURVE | rules::HORIZONTAL_ORIGIN | rules::VERTICAL_ORIGIN => "0 to 2",
+        rules::BOOK_SHORT => "4 or more",
+        rules::PANES_RANGE => "1 to 64",
+        rules::MATERIALS_RANGE => "0 to 32",
+        rules::PANE_PARENT => "65,535, which is none, or a smaller row",
+        rules::PANE_FLAGS => "0 to 3",
+        rules::PANE_FINITE
+        | rules::MATERIAL_FINITE
+        | rules::FRAME_FINITE
+        | rules::VALUE_FINITE
+        | rules::SLOPE_FINITE => "any finite number",
+        rules::LABEL_EMPTY | rules::NAME_EMPTY => "any other name",
+        rules::LABEL_TWICE | rules::NAME_TWICE => "a name that no other row has",
+        rules::CONSTANT_FRAME | rules::CONSTANT_SLOPE | rules::STEP_SLOPE => "+0",
+        rules::STEP_VALUE => "a whole number 0 to 65,535, not -0",
+        _ => "0",
+    }
 }
 
 // What may be is a number, with words behind it.
-fn may_number(o: Out, page: &mut [u8; PAGE], before: &[u8], n: usize, behind: &[u8]) -> Out {
-    let p = count(o, page, before, b"may_be", n as u64);
-    cli_page::lead(p, page, behind)
+fn may_number(out: &mut Out, n: usize, behind: &str) {
+    out.count(", may be ", "may_be", n as u64);
+    out.lead(behind);
 }
 
-fn sheet_asked(o: Out, page: &mut [u8; PAGE], f: Fault) -> Out {
-    let rule = f.rule;
-    match rule {
-        rules::SHEET_SHORT => may(o, page, b"12 or more"),
-        rules::ANIMATIONS_RANGE => may(o, page, b"1 to 8"),
-        rules::CONTENTS_RANGE | rules::TEXTURES_RANGE => may(o, page, b"0 to 64"),
-        rules::TARGETS_RANGE => may(o, page, b"0 to 256"),
-        rules::KEYS_RANGE => may(o, page, b"0 to 2,048"),
-        rules::LOOPING | rules::NEXT_PRESENT => may(o, page, b"0 or 1"),
-        rules::NEXT_ABSENT => may(o, page, b"0, since there is no next"),
-        rules::CONTENT_TYPE => may(o, page, b"0 to 4"),
-        rules::TARGET_CURVE => may(o, page, b"0 to 2"),
-        _ => may(o, page, b"0"),
-    }
-}
-
-// Rules that hold a number of the sheet against another.
-fn sheet_held(o: Out, page: &mut [u8; PAGE], f: Fault) -> Out {
-    let rule = f.rule;
-    match rule {
-        rules::SHEET_LENGTH => may_number(o, page, b", may be ", f.wants, b", as its sizes say"),
-        rules::CONTENT_ANIMATION | rules::TARGET_CONTENT => { below(o, page, f.wants) }
-        rules::CONTENT_ORDER | rules::TARGET_ORDER => from(o, page, f.wants),
-        rules::FIRST_KEY => may_number(
-            o,
-            page,
-            b", may be ",
-            f.wants,
-            b", the sum of the key counts before it",
-        ),
-        rules::COUNT_SUM => may_number(
-            o,
-            page,
-            b", may be ",
-            f.wants,
-            b", the sum of all key counts",
-        ),
-        _ => sheet_asked(o, page, f),
-    }
-}
-
-fn below(o: Out, page: &mut [u8; PAGE], n: usize) -> Out {
-    let p = cli_page::note(o, page, b"may_be", b"below");
-    count(p, page, b", may be below ", b"below", n as u64)
+fn below(out: &mut Out, n: usize) {
+    out.note("may_be", "below");
+    out.count(", may be below ", "below", n as u64);
 }
 
 // Rows never fall.
-fn from(o: Out, page: &mut [u8; PAGE], n: usize) -> Out {
-    let p = cli_page::note(o, page, b"may_be", b"not below that of the row before it");
-    let q = count(p, page, b", may be ", b"from", n as u64);
-    cli_page::lead(q, page, b" or more, as the row before it has")
+fn from(out: &mut Out, n: usize) {
+    out.note("may_be", "not below that of the row before it");
+    out.count(", may be ", "from", n as u64);
+    out.lead(" or more, as the row before it has");
 }
 
-fn book_asked(o: Out, page: &mut [u8; PAGE], f: Fault) -> Out {
-    let rule = f.rule;
-    match rule {
-        rules::BOOK_SHORT => may(o, page, b"4 or more"),
-        rules::PANES_RANGE => may(o, page, b"1 to 64"),
-        rules::MATERIALS_RANGE => may(o, page, b"0 to 32"),
-        rules::BOOK_LENGTH => may_number(o, page, b", may be ", f.wants, b", as its sizes say"),
-        rules::PANE_PARENT => may(o, page, b"65,535, which is none, or a smaller row"),
-        rules::PANE_FLAGS => may(o, page, b"0 to 3"),
-        rules::HORIZONTAL_ORIGIN | rules::VERTICAL_ORIGIN => may(o, page, b"0 to 2"),
-        rules::PANE_FINITE | rules::MATERIAL_FINITE => may(o, page, b"any finite number"),
-        rules::LABEL_EMPTY | rules::NAME_EMPTY => is_empty(o, page),
-        rules::LABEL_TWICE | rules::NAME_TWICE => is_twice(o, page, f.wants),
-        _ => may(o, page, b"0"),
-    }
-}
-
-fn is_empty(o: Out, page: &mut [u8; PAGE]) -> Out {
-    may(
-        cli_page::lead(o, page, b": is empty"),
-        page,
-        b"any other name",
-    )
-}
-
-fn is_twice(o: Out, page: &mut [u8; PAGE], row: usize) -> Out {
-    let p = count(o, page, b": is that of row ", b"row_before", row as u64);
-    may(p, page, b"a name that no other row has")
-}
-
-fn key_asked(o: Out, page: &mut [u8; PAGE], f: Fault) -> Out {
-    let rule = f.rule;
-    match rule {
-        rules::FRAME_FINITE | rules::VALUE_FINITE | rules::SLOPE_FINITE => {
-            may(o, page, b"any finite number")
-        }
-        rules::STEP_VALUE => may(o, page, b"a whole number 0 to 65,535, not -0"),
-        rules::FRAME_ORDER => {
-            let p = cli_numbers::number(o, page, b", may be ", b"from", float_of(f.wants));
-            cli_page::lead(p, page, b" or more, as the key before it has")
-        }
-        _ => may(o, page, b"+0"),
-    }
+fn from_frame(out: &mut Out, bits: usize) {
+    cli_numbers::number(out, ", may be ", "from", float_of(bits));
+    out.lead(" or more, as the key before it has");
 }
 
 // `, may be ` and what.
-pub fn say_asked(o: Out, page: &mut [u8; PAGE], f: Fault) -> Out {
-    if f.rule >= rules::FRAME_FINITE {
-        return key_asked(o, page, f);
+pub fn say_asked(out: &mut Out, fault: Fault) {
+    let wants = fault.wants;
+    match fault.rule {
+        rules::SHEET_LENGTH | rules::BOOK_LENGTH => may_number(out, wants, ", as its sizes say"),
+        rules::CONTENT_ANIMATION | rules::TARGET_CONTENT => below(out, wants),
+        rules::CONTENT_ORDER | rules::TARGET_ORDER => from(out, wants),
+        rules::FIRST_KEY => may_number(out, wants, ", the sum of the key counts before it"),
+        rules::COUNT_SUM => may_number(out, wants, ", the sum of all key counts"),
+        rules::FRAME_ORDER => from_frame(out, wants),
+        rule => out.word(", may be ", "may_be", may_of(rule)),
     }
-    if f.rule >= rules::BOOK_SHORT {
-        return book_asked(o, page, f);
-    }
-    sheet_held(o, page, f)
 }

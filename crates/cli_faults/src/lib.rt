@@ -4,57 +4,63 @@
 mod asked;
 mod parts;
 
-use asked::say_asked;
-use cli_page::{Out, PAGE, count, word};
+use asked::{float_of, say_asked};
+use cli_page::Out;
 use faults::{Fault, rules};
 use parts::{say_field, say_part};
 
-// Whether what is there are the bits of an f32.
-fn is_float(rule: u8) -> bool {
-    (rule == rules::PANE_FINITE)
-        | (rule == rules::MATERIAL_FINITE)
-        | ((rules::FRAME_FINITE <= rule) & (rule <= rules::FRAME_ORDER))
+// Why a file is declined: the refusal's number, and the first rule that is broken.
+#[derive(Clone, Copy)]
+pub struct Declined {
+    pub refusal: u8,
+    pub fault: Fault,
 }
 
-// Whether it is a name, whose bytes say nothing.
-fn is_name(rule: u8) -> bool {
-    (rules::LABEL_EMPTY <= rule) & (rule <= rules::NAME_TWICE)
-}
-
-fn say_there(o: Out, page: &mut [u8; PAGE], f: Fault) -> Out {
-    if is_name(f.rule) {
-        return o;
+// What is there: a number, or the bits of an f32. Of a name it is told what is wrong with it.
+fn say_there(out: &mut Out, fault: Fault) {
+    match fault.rule {
+        rules::LABEL_EMPTY | rules::NAME_EMPTY => out.lead(": is empty"),
+        rules::LABEL_TWICE | rules::NAME_TWICE => {
+            out.count(": is that of row ", "row_before", fault.wants as u64);
+        }
+        rules::PANE_FINITE
+        | rules::MATERIAL_FINITE
+        | rules::FRAME_FINITE
+        | rules::VALUE_FINITE
+        | rules::SLOPE_FINITE
+        | rules::CONSTANT_FRAME
+        | rules::CONSTANT_SLOPE
+        | rules::STEP_SLOPE
+        | rules::STEP_VALUE
+        | rules::FRAME_ORDER => cli_numbers::number(out, ": is ", "is", float_of(fault.there)),
+        _ => out.count(": is ", "is", fault.there as u64),
     }
-    if is_float(f.rule) {
-        return cli_numbers::number(o, page, b": is ", b"is", asked::float_of(f.there));
-    }
-    count(o, page, b": is ", b"is", f.there as u64)
 }
 
 // `: PART ROW, FIELD, byte N: is X, may be Y`, where a rule is broken.
-pub fn say_fault(o: Out, page: &mut [u8; PAGE], f: Fault) -> Out {
-    if f.rule == rules::NONE {
-        return o;
+fn say_fault(out: &mut Out, fault: Fault) {
+    if fault.rule == rules::NONE {
+        return;
     }
-    let p = say_field(say_part(o, page, f), page, f.rule);
-    let q = count(p, page, b", byte ", b"offset", f.at as u64);
-    say_asked(say_there(q, page, f), page, f)
+    say_part(out, fault);
+    say_field(out, fault.rule);
+    out.count(", byte ", "offset", fault.at as u64);
+    say_there(out, fault);
+    say_asked(out, fault);
 }
 
 // `FILE: ok, a sheet`, or `FILE: declined N: ` and why.
-pub fn say_verdict(
-    o: Out,
-    page: &mut [u8; PAGE],
-    path: &[u8],
-    kind: &[u8],
-    refusal: u8,
-    f: Fault,
-) -> Out {
-    let p = cli_page::bytes(cli_page::begin(o, page), page, b"", b"file", path);
-    if refusal != 0 {
-        let q = cli_printed::refusal(p, page, b": ", refusal);
-        return say_fault(q, page, f);
+pub fn say_verdict(out: &mut Out, path: &[u8], kind: &str, verdict: Result<(), Declined>) {
+    out.begin();
+    out.bytes("", "file", path);
+    match verdict {
+        Ok(()) => {
+            out.word(": ", "answer", "ok");
+            out.word(", a ", "is", kind);
+        }
+        Err(declined) => {
+            cli_printed::refusal(out, ": ", declined.refusal);
+            say_fault(out, declined.fault);
+        }
     }
-    let q = word(p, page, b": ", b"answer", b"ok");
-    word(q, page, b", a ", b"is", kind)
 }

@@ -1,140 +1,103 @@
 // A book: its panes as a tree, and its materials.
-ghost use Rattle.std.specs.Prelude.{◌<◌, ◌≤◌};
+ghost use Rattle.std.specs.Prelude.{◌<◌, IfSome};
 ghost use Rattle.book.specs.Sizes.{pane_count, material_count};
-ghost use Rattle.book.specs.Checked.{CheckedBook};
 
-use cli_page::{Out, PAGE, begin, count, end};
+use cli_facts::Book;
+use cli_page::Out;
 
-const NO_NAME: [u8; 24] = [0; 24];
+const NO_NAME: &[u8] = &[0; 24];
 
-fn say_sizes(o: Out, page: &mut [u8; PAGE], path: &[u8], b: &[u8]) -> Out
-    requires { CheckedBook b.now }
-{
-    let panes = book::pane_count(b) as u64;
-    let materials = book::material_count(b) as u64;
-    let p = cli_page::bytes(begin(o, page), page, b"book ", b"book", path);
-    let q = count(p, page, b" bytes ", b"bytes", b.len() as u64);
-    let r = count(q, page, b" panes ", b"panes", panes);
-    end(
-        count(r, page, b" materials ", b"materials", materials),
-        page,
-    )
+fn say_sizes(out: &mut Out, path: &[u8], book: Book<'_>) {
+    out.begin();
+    out.bytes("book ", "book", path);
+    out.count(" bytes ", "bytes", book.bytes.len() as u64);
+    out.count(" panes ", "panes", book::pane_count(book.bytes) as u64);
+    out.count(
+        " materials ",
+        "materials",
+        book::material_count(book.bytes) as u64,
+    );
+    out.end();
 }
 
-// The parent of a pane, or the pane itself where it has none: a smaller row, or the same.
-fn parent_of(b: &[u8], i: usize) -> usize
-    requires { CheckedBook b.now × (i < pane_count b.now) }
-    ensures { result ≤ i }
+// The parent of a pane, which is a smaller row.
+fn parent_of(book: Book<'_>, i: usize) -> Option<usize>
+    requires { i < pane_count book.bytes.now }
+    ensures { IfSome result (λ parent. parent < i) }
 {
-    let parent = book::pane_row(b, i).parent;
-    if parent < i { parent } else { i }
+    let parent = book::pane_row(book.bytes, i).parent;
+    if parent < i { Some(parent) } else { None }
 }
 
-// How many parents a pane has, one above the other.
-fn depth(b: &[u8], i: usize) -> usize
-    requires { CheckedBook b.now × (i < pane_count b.now) }
+// Two spaces for each parent that a pane has, one above the other.
+fn indent(out: &mut Out, book: Book<'_>, i: usize)
+    requires { i < pane_count book.bytes.now }
 {
     let mut at = i;
-    let mut n = 0;
-    let mut left = i;
-    while left > 0 {
-        left -= 1;
-        let parent = parent_of(b, at);
-        if parent == at {
-            return n;
-        }
+    while let Some(parent) = parent_of(book, at) {
+        out.lead("  ");
         at = parent;
-        n += 1;
     }
-    n
 }
 
-// Two spaces a parent.
-fn indent(o: Out, page: &mut [u8; PAGE], n: usize) -> Out {
-    let mut p = o;
-    let mut i = 0;
-    while i < n {
-        p = cli_page::lead(p, page, b"  ");
-        i += 1;
-    }
-    p
-}
-
-fn say_parent(o: Out, page: &mut [u8; PAGE], parent: usize) -> Out {
-    if parent == book::NO_PARENT {
-        return o;
-    }
-    count(o, page, b" parent ", b"parent", parent as u64)
-}
-
-fn say_pane(o: Out, page: &mut [u8; PAGE], b: &[u8], i: usize) -> Out
-    requires { CheckedBook b.now × (i < pane_count b.now) }
+fn say_pane(out: &mut Out, book: Book<'_>, i: usize)
+    requires { i < pane_count book.bytes.now }
 {
-    let row = book::pane_row(b, i);
-    let label = book::pane_label(b, i);
-    let parents = depth(b, i);
-    let p = count(begin(o, page), page, b"pane ", b"pane", i as u64);
-    let q = indent(p, page, parents);
-    let r = cli_printed::name(q, page, b" ", b"name", label);
-    let t = say_parent(r, page, row.parent);
-    let u = cli_facts::say_shown(t, page, b" ", row.visible);
-    end(count(u, page, b" alpha ", b"alpha", row.alpha as u64), page)
-}
-
-fn say_panes(o: Out, page: &mut [u8; PAGE], b: &[u8]) -> Out
-    requires { CheckedBook b.now }
-{
-    let n = book::pane_count(b);
-    let mut p = o;
-    let mut i = 0;
-    while i < n {
-        p = say_pane(p, page, b, i);
-        i += 1;
+    let row = book::pane_row(book.bytes, i);
+    out.begin();
+    out.count("pane ", "pane", i as u64);
+    indent(out, book, i);
+    cli_printed::name(out, " ", "name", book::pane_label(book.bytes, i));
+    if row.parent != book::NO_PARENT {
+        out.count(" parent ", "parent", row.parent as u64);
     }
-    p
+    cli_facts::say_shown(out, " ", row.visible);
+    out.count(" alpha ", "alpha", row.alpha as u64);
+    out.end();
 }
 
 // The texture of a slot; in text only where it has a name.
-fn say_texture(o: Out, page: &mut [u8; PAGE], before: &[u8], key: &[u8], name: &[u8]) -> Out {
-    if !o.json & cli_words::same(name, &NO_NAME) {
-        return o;
+fn say_texture(out: &mut Out, before: &str, key: &str, name: &[u8]) {
+    if out.json || name != NO_NAME {
+        cli_printed::name(out, before, key, name);
     }
-    cli_printed::name(o, page, before, key, name)
 }
 
-fn say_material(o: Out, page: &mut [u8; PAGE], b: &[u8], i: usize) -> Out
-    requires { CheckedBook b.now × (i < material_count b.now) }
+fn say_material(out: &mut Out, book: Book<'_>, i: usize)
+    requires { i < material_count book.bytes.now }
 {
-    let name = book::material_name(b, i);
-    let first = book::material_texture(b, i, 0);
-    let second = book::material_texture(b, i, 1);
-    let third = book::material_texture(b, i, 2);
-    let p = count(begin(o, page), page, b"material ", b"material", i as u64);
-    let q = cli_printed::name(p, page, b" ", b"name", name);
-    let r = say_texture(q, page, b" texture_0 ", b"texture_0", first);
-    let t = say_texture(r, page, b" texture_1 ", b"texture_1", second);
-    end(
-        say_texture(t, page, b" texture_2 ", b"texture_2", third),
-        page,
-    )
-}
-
-fn say_materials(o: Out, page: &mut [u8; PAGE], b: &[u8]) -> Out
-    requires { CheckedBook b.now }
-{
-    let n = book::material_count(b);
-    let mut p = o;
-    let mut i = 0;
-    while i < n {
-        p = say_material(p, page, b, i);
-        i += 1;
-    }
-    p
+    let b = book.bytes;
+    out.begin();
+    out.count("material ", "material", i as u64);
+    cli_printed::name(out, " ", "name", book::material_name(b, i));
+    say_texture(
+        out,
+        " texture_0 ",
+        "texture_0",
+        book::material_texture(b, i, 0),
+    );
+    say_texture(
+        out,
+        " texture_1 ",
+        "texture_1",
+        book::material_texture(b, i, 1),
+    );
+    say_texture(
+        out,
+        " texture_2 ",
+        "texture_2",
+        book::material_texture(b, i, 2),
+    );
+    out.end();
 }
 
 // All of a book.
-pub fn say_book(o: Out, page: &mut [u8; PAGE], path: &[u8], b: &[u8]) -> Out
-    requires { CheckedBook b.now }
-{
-    say_materials(say_panes(say_sizes(o, page, path, b), page, b), page, b)
+pub fn say_book(out: &mut Out, path: &[u8], book: Book<'_>) {
+    say_sizes(out, path, book);
+    for i in 0..book::pane_count(book.bytes) {
+        say_pane(out, book, i);
+    }
+    for i in 0..book::material_count(book.bytes) {
+        say_material(out, book, i);
+    }
 }

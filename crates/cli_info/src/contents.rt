@@ -1,164 +1,118 @@
 // The contents of a sheet, and what they reach in a book.
 ghost use Rattle.std.specs.Prelude.{◌<◌};
 ghost use Rattle.sheet.specs.Sizes.{content_count};
-ghost use Rattle.sheet.specs.Checked.{Checked};
-ghost use Rattle.book.specs.Checked.{CheckedBook};
 
-use cli_page::{Out, PAGE, begin, count, end, word};
-use laws::Found;
+use cli_facts::{Book, Files, Sheet};
+use cli_page::Out;
+use cli_printed::Owner;
 
-// The types that reach something.
-const PANE: usize = 0;
-
-const MATERIAL: usize = 1;
-
-const PANE_EXT: usize = 3;
-
-// The name of content i.
-fn content_name<'a>(s: &'a [u8], i: usize) -> &'a [u8]
-    requires { Checked s.now × (i < content_count s.now) }
-{
-    field::name_at(
-        s,
-        sheet::contents_at(s) + i * sheet::CONTENT_BYTES + sheet::ROW_NAME,
-    )
+// Whose channels a content of a type reaches. The other types reach nothing in a book.
+pub fn owner_of(kind: usize) -> Option<Owner> {
+    match kind {
+        0 | 3 => Some(Owner::Pane),
+        1 => Some(Owner::Material),
+        _ => None,
+    }
 }
 
-// A content's type in words.
-fn say_type(o: Out, page: &mut [u8; PAGE], kind: usize) -> Out {
+fn type_name(kind: usize) -> &'static str {
     match kind {
-        0 => word(o, page, b" ", b"type", b"pane"),
-        1 => word(o, page, b" ", b"type", b"material"),
-        2 => word(o, page, b" ", b"type", b"user"),
-        3 => word(o, page, b" ", b"type", b"pane_ext"),
-        _ => word(o, page, b" ", b"type", b"state_machine"),
+        0 => "pane",
+        1 => "material",
+        2 => "user",
+        3 => "pane_ext",
+        _ => "state_machine",
     }
 }
 
 // A content's type and name.
-pub fn say_named(o: Out, page: &mut [u8; PAGE], s: &[u8], i: usize) -> Out
-    requires { Checked s.now × (i < content_count s.now) }
+pub fn say_named(out: &mut Out, sheet: Sheet<'_>, i: usize)
+    requires { i < content_count sheet.bytes.now }
 {
-    let p = say_type(o, page, sheet::content_row(s, i).kind);
-    cli_printed::name(p, page, b" ", b"name", content_name(s, i))
+    let kind = sheet::content_row(sheet.bytes, i).kind;
+    out.word(" ", "type", type_name(kind));
+    let at = sheet::contents_at(sheet.bytes) + i * sheet::CONTENT_BYTES + sheet::ROW_NAME;
+    cli_printed::name(out, " ", "name", field::name_at(sheet.bytes, at));
 }
 
 // The row of the book that has the content's name, among its panes or its materials as the type says.
-fn reached(s: &[u8], b: &[u8], i: usize) -> Found
-    requires { Checked s.now × (CheckedBook b.now × (i < content_count s.now)) }
+fn reached(files: Files<'_>, i: usize) -> Option<(Owner, usize)>
+    requires { i < content_count files.sheet.bytes.now }
 {
-    let kind = sheet::content_row(s, i).kind;
+    let s = files.sheet.bytes;
+    let b = files.book.bytes;
+    let owner = owner_of(sheet::content_row(s, i).kind)?;
     let at = sheet::contents_at(s) + i * sheet::CONTENT_BYTES + sheet::ROW_NAME;
-    if (kind == PANE) | (kind == PANE_EXT) {
-        return field::find_name(b, book::HEAD, book::PANE_BYTES, book::pane_count(b), s, at);
-    }
-    if kind == MATERIAL {
-        return field::find_name(
+    let found = match owner {
+        Owner::Pane => {
+            field::find_name(b, book::HEAD, book::PANE_BYTES, book::pane_count(b), s, at)
+        }
+        Owner::Material => field::find_name(
             b,
             book::materials_at(b),
             book::MATERIAL_BYTES,
             book::material_count(b),
             s,
             at,
-        );
-    }
-    Found::Nothing
-}
-
-fn say_row(o: Out, page: &mut [u8; PAGE], kind: usize, row: usize) -> Out {
-    let p = cli_page::lead(o, page, b" reaches");
-    if kind == MATERIAL {
-        let q = word(p, page, b" ", b"reaches", b"material");
-        return count(q, page, b" ", b"row", row as u64);
-    }
-    let q = word(p, page, b" ", b"reaches", b"pane");
-    count(q, page, b" ", b"row", row as u64)
-}
-
-fn say_reached(o: Out, page: &mut [u8; PAGE], s: &[u8], b: &[u8], i: usize) -> Out
-    requires { Checked s.now × (CheckedBook b.now × (i < content_count s.now)) }
-{
-    let Found::At(row) = reached(s, b, i) else {
-        return word(o, page, b" reaches ", b"reaches", b"nothing");
-    };
-    say_row(o, page, sheet::content_row(s, i).kind, row)
-}
-
-// A content's row, without the line's end.
-fn say_own(o: Out, page: &mut [u8; PAGE], s: &[u8], i: usize) -> Out
-    requires { Checked s.now × (i < content_count s.now) }
-{
-    let animation = sheet::content_row(s, i).animation as u64;
-    let p = count(begin(o, page), page, b"content ", b"content", i as u64);
-    let q = count(p, page, b" animation ", b"animation", animation);
-    say_named(q, page, s, i)
-}
-
-fn say_content(o: Out, page: &mut [u8; PAGE], s: &[u8], b: &[u8], i: usize) -> Out
-    requires { Checked s.now × (i < content_count s.now) }
-{
-    let p = say_own(o, page, s, i);
-    if book::book_ok(b) {
-        return end(say_reached(p, page, s, b, i), page);
-    }
-    end(p, page)
-}
-
-pub fn say_contents(o: Out, page: &mut [u8; PAGE], s: &[u8], b: &[u8]) -> Out
-    requires { Checked s.now }
-{
-    let n = sheet::content_count(s);
-    let mut p = o;
-    let mut i = 0;
-    while i < n {
-        p = say_content(p, page, s, b, i);
-        i += 1;
-    }
-    p
-}
-
-fn warn(o: Out, page: &mut [u8; PAGE], path: &[u8], s: &[u8], i: usize) -> Out
-    requires { Checked s.now × (i < content_count s.now) }
-{
-    let p = cli_page::bytes(begin(o, page), page, b"warning: ", b"file", path);
-    let q = count(p, page, b": content ", b"content", i as u64);
-    let r = say_named(q, page, s, i);
-    end(
-        word(
-            r,
-            page,
-            b": ",
-            b"warning",
-            b"the book has nothing of that name",
         ),
-        page,
-    )
+    };
+    found.map(|row| (owner, row))
 }
 
-// A warning where a content names a pane or a material that the book hasn't. Other types reach nothing anyway.
-fn say_missed(o: Out, page: &mut [u8; PAGE], path: &[u8], s: &[u8], b: &[u8], i: usize) -> Out
-    requires { Checked s.now × (CheckedBook b.now × (i < content_count s.now)) }
+fn say_reached(out: &mut Out, files: Files<'_>, i: usize)
+    requires { i < content_count files.sheet.bytes.now }
 {
-    let kind = sheet::content_row(s, i).kind;
-    if (kind != PANE) & (kind != PANE_EXT) & (kind != MATERIAL) {
-        return o;
-    }
-    if let Found::At(_) = reached(s, b, i) {
-        return o;
-    }
-    warn(o, page, path, s, i)
+    let Some((owner, row)) = reached(files, i) else {
+        out.word(" reaches ", "reaches", "nothing");
+        return;
+    };
+    let part = match owner {
+        Owner::Pane => "pane",
+        Owner::Material => "material",
+    };
+    out.lead(" reaches");
+    out.word(" ", "reaches", part);
+    out.count(" ", "row", row as u64);
 }
 
-// The contents of a sheet that the book has nothing for.
-pub fn say_unreached(o: Out, page: &mut [u8; PAGE], path: &[u8], s: &[u8], b: &[u8]) -> Out
-    requires { Checked s.now × CheckedBook b.now }
+// A content's row, and what it reaches where there is a book.
+fn say_content(out: &mut Out, sheet: Sheet<'_>, book: Option<Book<'_>>, i: usize)
+    requires { i < content_count sheet.bytes.now }
 {
-    let n = sheet::content_count(s);
-    let mut p = o;
-    let mut i = 0;
-    while i < n {
-        p = say_missed(p, page, path, s, b, i);
-        i += 1;
+    let row = sheet::content_row(sheet.bytes, i);
+    out.begin();
+    out.count("content ", "content", i as u64);
+    out.count(" animation ", "animation", row.animation as u64);
+    say_named(out, sheet, i);
+    if let Some(book) = book {
+        say_reached(out, Files { sheet, book }, i);
     }
-    p
+    out.end();
+}
+
+pub fn say_contents(out: &mut Out, sheet: Sheet<'_>, book: Option<Book<'_>>) {
+    for i in 0..sheet::content_count(sheet.bytes) {
+        say_content(out, sheet, book, i);
+    }
+}
+
+fn warn(out: &mut Out, path: &[u8], sheet: Sheet<'_>, i: usize)
+    requires { i < content_count sheet.bytes.now }
+{
+    out.begin();
+    out.bytes("warning: ", "file", path);
+    out.count(": content ", "content", i as u64);
+    say_named(out, sheet, i);
+    out.word(": ", "warning", "the book has nothing of that name");
+    out.end();
+}
+
+// A warning for each content that names a pane or a material that the book hasn't. Other types reach nothing anyway.
+pub fn say_unreached(out: &mut Out, path: &[u8], files: Files<'_>) {
+    for i in 0..sheet::content_count(files.sheet.bytes) {
+        let kind = sheet::content_row(files.sheet.bytes, i).kind;
+        if owner_of(kind).is_some() && reached(files, i).is_none() {
+            warn(out, path, files.sheet, i);
+        }
+    }
 }

@@ -9,4 +9,4 @@ mod tracks;
 pub use book_rows::say_book;
 pub use contents::{say_named, say_unreached};
 pub use sheet_rows::{say_animation, say_sheet};
-pub use tracks::say_code;
+pub use tracks::{channel_of, say_code};

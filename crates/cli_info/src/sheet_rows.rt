@@ -1,91 +1,68 @@
 // A sheet: its sizes, its animations, and its textures.
 ghost use Rattle.std.specs.Prelude.{◌<◌};
-ghost use Rattle.sheet.specs.Sizes.{animation_count, texture_count};
-ghost use Rattle.sheet.specs.Checked.{Checked};
+ghost use Rattle.sheet.specs.Sizes.{animation_count};
 
-use cli_page::{Out, PAGE, begin, count, end, mark};
+use crate::contents::say_contents;
+use crate::tracks::say_tracks;
+use cli_facts::{Book, Sheet};
+use cli_page::Out;
 
-fn say_sizes(o: Out, page: &mut [u8; PAGE], path: &[u8], s: &[u8]) -> Out
-    requires { Checked s.now }
-{
-    let animations = sheet::animation_count(s) as u64;
-    let contents = sheet::content_count(s) as u64;
-    let tracks = sheet::target_count(s) as u64;
-    let keys = sheet::key_count(s) as u64;
-    let textures = sheet::texture_count(s) as u64;
-    let p = cli_page::bytes(begin(o, page), page, b"sheet ", b"sheet", path);
-    let q = count(p, page, b" bytes ", b"bytes", s.len() as u64);
-    let a = count(q, page, b" animations ", b"animations", animations);
-    let c = count(a, page, b" contents ", b"contents", contents);
-    let t = count(c, page, b" tracks ", b"tracks", tracks);
-    let k = count(t, page, b" keys ", b"keys", keys);
-    end(count(k, page, b" textures ", b"textures", textures), page)
+fn say_sizes(out: &mut Out, path: &[u8], sheet: Sheet<'_>) {
+    let s = sheet.bytes;
+    out.begin();
+    out.bytes("sheet ", "sheet", path);
+    out.count(" bytes ", "bytes", s.len() as u64);
+    out.count(
+        " animations ",
+        "animations",
+        sheet::animation_count(s) as u64,
+    );
+    out.count(" contents ", "contents", sheet::content_count(s) as u64);
+    out.count(" tracks ", "tracks", sheet::target_count(s) as u64);
+    out.count(" keys ", "keys", sheet::key_count(s) as u64);
+    out.count(" textures ", "textures", sheet::texture_count(s) as u64);
+    out.end();
 }
 
-fn say_looping(o: Out, page: &mut [u8; PAGE], looping: bool) -> Out {
-    if o.json {
-        return mark(o, page, b"", b"looping", looping);
+fn say_looping(out: &mut Out, looping: bool) {
+    if out.json {
+        out.mark("", "looping", looping);
+    } else {
+        out.lead(if looping { " looping" } else { " ending" });
     }
-    if looping {
-        return cli_page::lead(o, page, b" looping");
-    }
-    cli_page::lead(o, page, b" ending")
 }
 
 // What the sheet says of an animation.
-pub fn say_animation(o: Out, page: &mut [u8; PAGE], s: &[u8], i: usize) -> Out
-    requires { Checked s.now × (i < animation_count s.now) }
+pub fn say_animation(out: &mut Out, sheet: Sheet<'_>, i: usize)
+    requires { i < animation_count sheet.bytes.now }
 {
-    let row = sheet::animation_row(s, i);
-    let next = sheet::next_name(s, i);
-    let p = count(begin(o, page), page, b"animation ", b"animation", i as u64);
-    let q = count(p, page, b" frames ", b"frames", row.frames as u64);
-    let r = say_looping(q, page, row.looping);
+    let row = sheet::animation_row(sheet.bytes, i);
+    out.begin();
+    out.count("animation ", "animation", i as u64);
+    out.count(" frames ", "frames", row.frames as u64);
+    say_looping(out, row.looping);
     if row.next {
-        return end(cli_printed::name(r, page, b" next ", b"next", next), page);
+        cli_printed::name(out, " next ", "next", sheet::next_name(sheet.bytes, i));
     }
-    end(r, page)
+    out.end();
 }
 
-fn say_animations(o: Out, page: &mut [u8; PAGE], s: &[u8]) -> Out
-    requires { Checked s.now }
-{
-    let n = sheet::animation_count(s);
-    let mut p = o;
-    let mut i = 0;
-    while i < n {
-        p = say_animation(p, page, s, i);
-        i += 1;
+fn say_textures(out: &mut Out, sheet: Sheet<'_>) {
+    for i in 0..sheet::texture_count(sheet.bytes) {
+        out.begin();
+        out.count("texture ", "texture", i as u64);
+        cli_printed::name(out, " ", "name", sheet::texture_name(sheet.bytes, i));
+        out.end();
     }
-    p
 }
 
-fn say_texture(o: Out, page: &mut [u8; PAGE], s: &[u8], i: usize) -> Out
-    requires { Checked s.now × (i < texture_count s.now) }
-{
-    let name = sheet::texture_name(s, i);
-    let p = count(begin(o, page), page, b"texture ", b"texture", i as u64);
-    end(cli_printed::name(p, page, b" ", b"name", name), page)
-}
-
-fn say_textures(o: Out, page: &mut [u8; PAGE], s: &[u8]) -> Out
-    requires { Checked s.now }
-{
-    let n = sheet::texture_count(s);
-    let mut p = o;
-    let mut i = 0;
-    while i < n {
-        p = say_texture(p, page, s, i);
-        i += 1;
+// All of a sheet; what its contents reach is told where there is a book.
+pub fn say_sheet(out: &mut Out, path: &[u8], sheet: Sheet<'_>, book: Option<Book<'_>>) {
+    say_sizes(out, path, sheet);
+    for i in 0..sheet::animation_count(sheet.bytes) {
+        say_animation(out, sheet, i);
     }
-    p
-}
-
-// All of a sheet; what its contents reach is told where there is a book, which a slice of no bytes is not.
-pub fn say_sheet<'a>(o: Out, page: &mut [u8; PAGE], path: &[u8], s: &'a [u8], b: &'a [u8]) -> Out
-    requires { Checked s.now }
-{
-    let p = say_animations(say_sizes(o, page, path, s), page, s);
-    let q = crate::contents::say_contents(p, page, s, b);
-    say_textures(crate::tracks::say_tracks(q, page, s), page, s)
+    say_contents(out, sheet, book);
+    say_tracks(out, sheet);
+    say_textures(out, sheet);
 }

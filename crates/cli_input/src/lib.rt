@@ -1,117 +1,133 @@
 // Standard input, line by line: read in pieces, so that an input of any length works. A line longer than its room is read to its end and told.
 #![tactic(auto)]
 
-ghost use Rattle.std.specs.Prelude.{◌≡◌, ◌<◌, ◌≤◌, length};
-ghost use Rattle.cli_input.specs.Held.{Held};
+ghost use Rattle.std.specs.Prelude.{◌≡◌, ◌+◌, ◌≤◌, length};
 
+use arrayvec::ArrayVec;
 use std::io::Read;
+
+const PIECE: usize = 65536;
+
+const ROOM: usize = 255;
 
 const LINE_END: u8 = 10;
 
-// The bytes of a piece from `at` to `filled` are unread. `left` bytes may still come: a proved loop has to end, and nothing says that an input does,
-// so it begins with a number that no run uses up, and is 0 once the input has ended. `length` bytes of the line are there; `long` says that it has more.
-// `unread`: the input ended because it can't be read.
-#[derive(Clone, Copy)]
+#[derive(Clone, Copy, Debug, PartialEq, Eq)]
+enum State {
+    Open,
+    Ended,
+    // It ended because it can't be read.
+    Unread,
+}
+
+// A line that its room is too short for.
+#[derive(Clone, Copy, Debug, PartialEq, Eq)]
+pub struct TooLong;
+
+// The bytes of the piece from `at` to `filled` are unread. `long` says that the line has more than its room; what is there of it then doesn't matter.
+#[derive(Drop)]
 pub struct Input {
-    pub at: usize,
-    pub filled: usize,
-    pub left: u64,
-    pub length: usize,
-    pub long: bool,
-    pub unread: bool,
+    piece: [u8; PIECE],
+    at: usize,
+    filled: usize,
+    line: ArrayVec<u8, ROOM>,
+    long: bool,
+    state: State,
+    ghost read: { at ≤ filled },
+    ghost within: { filled ≤ 65536 },
 }
 
-pub fn fresh() -> Input
-    ensures { Held result 0 0 }
+// Puts n bytes of a piece behind a line; whether they had room.
+fn put(line: &mut ArrayVec<u8, ROOM>, piece: &[u8], at: usize, n: usize) -> bool
+    requires { at + n ≤ length piece.now }
 {
-    Input {
-        at: 0,
-        filled: 0,
-        left: u64::MAX,
-        length: 0,
-        long: false,
-        unread: false,
-    }
+    line.try_extend_from_slice(&piece[at..at + n]).is_ok()
 }
 
-// The same with the next piece where this one is read.
-fn refilled<R: Read>(from: &mut R, piece: &mut [u8], i: Input, room: usize) -> Input
-    requires { Held i (length piece.old) room }
-    ensures { Held result (length piece.old) room × (result.left ≡ i.left) }
-{
-    if i.at < i.filled {
-        return i;
-    }
-    match from.read(piece) {
-        Ok(filled) => Input {
-            at: 0,
-            filled,
-            unread: false,
-            ..i
-        },
-        Err(_) => Input {
+impl Input {
+    pub fn new() -> Input {
+        Input {
+            piece: [0; PIECE],
             at: 0,
             filled: 0,
-            unread: true,
-            ..i
-        },
+            line: ArrayVec::new(),
+            long: false,
+            state: State::Open,
+        }
     }
-}
 
-// One byte more of the line, or that there is no room.
-fn stored(line: &mut [u8], i: Input, piece: usize, b: u8) -> Input
-    requires { Held i piece (length line.old) }
-    ensures { Held result piece (length line.old) × (result.left ≡ i.left) }
-{
-    let n = i.length;
-    if n < line.len() {
-        line[n] = b;
-        return Input { length: n + 1, ..i };
+    // Whether the input ended because it can't be read.
+    pub fn is_unread(&self) -> bool {
+        self.state == State::Unread
     }
-    Input { long: true, ..i }
-}
 
-// The next line, without its end.
-pub fn next_line<R: Read>(from: &mut R, piece: &mut [u8], line: &mut [u8], before: Input) -> Input
-    requires { Held before (length piece.old) (length line.old) × (0 < before.left) }
-    ensures { Held result (length piece.old) (length line.old) × (result.left < before.left) }
-{
-    let mut i = Input {
-        length: 0,
-        long: false,
-        ..before
-    };
-    while i.left > 0 {
-        i = refilled(from, piece, i, line.len());
-        let at = i.at;
-        if at >= i.filled {
-            return Input { left: 0, ..i };
-        }
-        let b = piece[at];
-        i = Input {
-            at: at + 1,
-            left: i.left - 1,
-            ..i
-        };
-        if b == LINE_END {
-            return i;
-        }
-        i = stored(line, i, piece.len(), b);
+    // Whether a whole line is there already, so that nothing has to be waited for.
+    pub fn has_line(&self) -> bool {
+        self.piece[self.at..self.filled].contains(&LINE_END)
     }
-    i
-}
 
-// Whether a whole line is there already, so that nothing has to be waited for.
-pub fn has_line(piece: &[u8], at: usize, filled: usize) -> bool {
-    let mut i = at;
-    while i < filled {
-        if i >= piece.len() {
-            return false;
+    // The next piece, where this one is read.
+    fn fill<R: Read>(&mut self, from: &mut R) {
+        if self.at < self.filled {
+            return;
         }
-        if piece[i] == LINE_END {
-            return true;
+        self.at = 0;
+        self.filled = 0;
+        match from.read(&mut self.piece) {
+            Ok(0) => self.state = State::Ended,
+            Ok(filled) => self.filled = filled,
+            Err(_) => self.state = State::Unread,
         }
-        i += 1;
     }
-    false
+
+    // The next n bytes of the piece go behind the line.
+    fn store(&mut self, n: usize)
+        requires { self.old.at + n ≤ self.old.filled }
+        ensures { (self.new.at ≡ self.old.at + n) × (self.new.filled ≡ self.old.filled) }
+    {
+        if !put(&mut self.line, &self.piece, self.at, n) {
+            self.long = true;
+        }
+        self.at += n;
+    }
+
+    // What the piece has of the line; whether the line ends there.
+    fn take(&mut self) -> bool {
+        let unread = &self.piece[self.at..self.filled];
+        match unread.iter().position(|b| *b == LINE_END) {
+            Some(n) => {
+                self.store(n);
+                self.at += 1;
+                true
+            }
+            None => {
+                self.store(self.filled - self.at);
+                false
+            }
+        }
+    }
+
+    // Reads the next line.
+    fn read_line<R: Read>(&mut self, from: &mut R) {
+        self.line.clear();
+        self.long = false;
+        for _ in 0..u64::MAX {
+            self.fill(from);
+            if self.state != State::Open || self.take() {
+                return;
+            }
+        }
+    }
+
+    // The next line, without its end. The last may be empty.
+    pub fn next_line<'a, R: Read>(&'a mut self, from: &mut R) -> Option<Result<&'a [u8], TooLong>> {
+        if self.state != State::Open {
+            return None;
+        }
+        self.read_line(from);
+        if self.long {
+            return Some(Err(TooLong));
+        }
+        Some(Ok(self.line.as_slice()))
+    }
 }

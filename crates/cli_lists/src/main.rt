@@ -2,18 +2,18 @@
 // with a freshly loaded player. In oracle/, `cargo run --release -p cases --bin store -- ../crates` makes data/ and stdout again, from the Rust's answers alone.
 #![tactic(auto)]
 
-use cli_page::{PAGE, say};
+use cli_page::Out;
 use std::fs::File;
 use std::io;
 
 // A list takes the place of standard input, as a shell's `<` has it.
 fn list(rt: HostRuntime, calls: &str, line: &[u8]) -> io::Result<()> {
-    let mut page = [0u8; PAGE];
-    let o = cli_page::fresh(rt, false, false, false);
-    let p = say(say(o, &mut page, calls.as_bytes()), &mut page, b":\n");
+    let mut out = Out::new(rt, false, false, false);
+    out.say(calls);
+    out.say(":\n");
     let mut from = File::open(&rt, calls)?;
-    let q = cli_console::run(&mut from, p, &mut page, line);
-    cli_page::flush(q, &mut page);
+    cli_console::run(&mut from, &mut out, line);
+    out.flush();
     Ok(())
 }
 

@@ -1,29 +1,23 @@
 // Text from outside on one line of a terminal or in a JSON string: control bytes and bytes that are no UTF-8 are never written as they are.
-ghost use Rattle.std.specs.Prelude.{◌≤◌, ◌<◌, ◌+◌, length};
+ghost use Rattle.std.specs.Prelude.{◌≤◌, ◌<◌, length, IfSome};
 
-use crate::out::{Out, PAGE, say};
+use crate::out::Out;
+use std::fmt::Write;
 
 const QUOTE: u8 = 34;
 
 const BACKSLASH: u8 = 92;
 
-// How many bytes a character has that begins with b, or 0 where none does: those that begin one of more bytes.
-fn width(b: u8) -> usize
-    ensures { result ≤ 4 }
+// How many bytes a character of more than one has that begins with b.
+fn width(b: u8) -> Option<usize>
+    ensures { IfSome result (λ n. (2 ≤ n) × (n ≤ 4)) }
 {
-    if b < 194 {
-        return 0;
+    match b {
+        194..=223 => Some(2),
+        224..=239 => Some(3),
+        240..=244 => Some(4),
+        _ => None,
     }
-    if b < 224 {
-        return 2;
-    }
-    if b < 240 {
-        return 3;
-    }
-    if b < 245 {
-        return 4;
-    }
-    0
 }
 
 // Whether b goes on a character.
@@ -44,31 +38,20 @@ fn second(first: u8, b: u8) -> bool {
     }
 }
 
-// How many bytes the character of two or more bytes at a place has, or 0 where there is none.
-fn character(text: &[u8], at: usize) -> usize
-    requires { at < length text.now }
-    ensures { at + result ≤ length text.now }
+// How many bytes the character of more than one has that a text begins with.
+fn character(text: &[u8]) -> Option<usize>
+    requires { 0 < length text.now }
+    ensures { IfSome result (λ n. (0 < n) × (n ≤ length text.now)) }
 {
-    let n = width(text[at]);
-    if text.len() - at < n {
-        return 0;
+    let n = width(text[0])?;
+    if text.len() < n || !second(text[0], text[1]) {
+        return None;
     }
-    if n < 2 {
-        return 0;
+    if text[2..n].iter().all(|b| goes_on(*b)) {
+        Some(n)
+    } else {
+        None
     }
-    if !second(text[at], text[at + 1]) {
-        return 0;
-    }
-    if n == 2 {
-        return 2;
-    }
-    if !goes_on(text[at + 2]) {
-        return 0;
-    }
-    if n == 3 {
-        return 3;
-    }
-    if goes_on(text[at + 3]) { 4 } else { 0 }
 }
 
 // Whether a byte stands for itself on a line.
@@ -81,88 +64,66 @@ fn json_plain(b: u8) -> bool {
     plain(b) & (b != QUOTE) & (b != BACKSLASH)
 }
 
-// How many bytes from a place on stand for themselves.
-fn run(text: &[u8], at: usize, json: bool) -> usize
-    requires { at ≤ length text.now }
-    ensures { (at ≤ result) × (result ≤ length text.now) }
+// How many bytes at the start of a text stand for themselves.
+fn run(text: &[u8], json: bool) -> usize
+    ensures { result ≤ length text.now }
 {
-    let mut i = at;
-    while i < text.len() {
-        if json {
-            if !json_plain(text[i]) {
-                return i;
-            }
+    let stands = |b: &u8| if json { json_plain(*b) } else { plain(*b) };
+    text.iter().position(|b| !stands(b)).unwrap_or(text.len())
+}
+
+impl Out {
+    ghost use Rattle.std.specs.Prelude.{◌≤◌, ◌<◌, length};
+
+    // A byte that doesn't stand for itself, and begins no character.
+    fn say_hidden(&mut self, b: u8) {
+        if !self.json {
+            self.say("?");
+        } else if (b == QUOTE) | (b == BACKSLASH) {
+            self.say_bytes(&[BACKSLASH, b]);
+        } else if b < 128 {
+            let _ = write!(self, "\\u{b:04x}");
         } else {
-            if !plain(text[i]) {
-                return i;
-            }
-        }
-        i += 1;
-    }
-    i
-}
-
-fn digit(n: u8) -> u8 {
-    let d = n % 16;
-    if d < 10 { 48 + d } else { 87 + d }
-}
-
-// A byte that doesn't stand for itself, and begins no character.
-fn say_hidden(o: Out, page: &mut [u8; PAGE], b: u8) -> Out {
-    if !o.json {
-        return say(o, page, b"?");
-    }
-    if (b == QUOTE) | (b == BACKSLASH) {
-        return say(o, page, &[BACKSLASH, b]);
-    }
-    if b < 128 {
-        return say(o, page, &[BACKSLASH, 117, 48, 48, digit(b / 16), digit(b)]);
-    }
-    say(o, page, b"\\ufffd")
-}
-
-// Where the character at a place, or the one byte there, ends.
-fn beyond(text: &[u8], at: usize) -> usize
-    requires { at < length text.now }
-    ensures { (at < result) × (result ≤ length text.now) }
-{
-    let n = character(text, at);
-    if n == 0 { at + 1 } else { at + n }
-}
-
-// What stands at a place that is no plain byte: a whole character, or one byte.
-fn say_other(o: Out, page: &mut [u8; PAGE], text: &[u8], at: usize) -> Out
-    requires { at < length text.now }
-{
-    let n = character(text, at);
-    if n == 0 {
-        return say_hidden(o, page, text[at]);
-    }
-    let end = at + n;
-    say(o, page, &text[at..end])
-}
-
-// The text on one line.
-pub fn say_bare(o: Out, page: &mut [u8; PAGE], text: &[u8]) -> Out {
-    let mut p = o;
-    let mut at = 0;
-    while at < text.len() {
-        let end = run(text, at, p.json);
-        if end > at {
-            p = say(p, page, &text[at..end]);
-            at = end;
-        } else {
-            let next = beyond(text, at);
-            p = say_other(p, page, text, at);
-            at = next;
+            self.say("\\ufffd");
         }
     }
-    p
-}
 
-// As a JSON string.
-pub fn say_quoted(o: Out, page: &mut [u8; PAGE], text: &[u8]) -> Out {
-    let p = say(o, page, b"\"");
-    let q = say_bare(p, page, text);
-    say(q, page, b"\"")
+    // What stands at the start of a text and is no plain byte: a whole character, or one byte. How many bytes it has.
+    fn say_other(&mut self, text: &[u8]) -> usize
+        requires { 0 < length text.now }
+        ensures { (0 < result) × (result ≤ length text.now) }
+    {
+        match character(text) {
+            Some(n) => {
+                self.say_bytes(&text[..n]);
+                n
+            }
+            None => {
+                self.say_hidden(text[0]);
+                1
+            }
+        }
+    }
+
+    // The text on one line.
+    pub fn say_bare(&mut self, text: &[u8]) {
+        let mut rest = text;
+        while rest.len() > 0 {
+            let n = run(rest, self.json);
+            if n > 0 {
+                self.say_bytes(&rest[..n]);
+                rest = &rest[n..];
+            } else {
+                let k = self.say_other(rest);
+                rest = &rest[k..];
+            }
+        }
+    }
+
+    // As a JSON string.
+    pub fn say_quoted(&mut self, text: &[u8]) {
+        self.say("\"");
+        self.say_bare(text);
+        self.say("\"");
+    }
 }

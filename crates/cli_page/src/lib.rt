@@ -5,6 +5,4 @@ mod bare;
 mod member;
 mod out;
 
-pub use bare::say_bare;
-pub use member::{begin, bytes, count, end, flag, key, lead, mark, note, word};
-pub use out::{ACCEPTED, DECLINED, Out, PAGE, WRONG, came_to, flush, flush_error, fresh, say};
+pub use out::{Out, Status};

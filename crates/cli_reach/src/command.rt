@@ -1,258 +1,76 @@
 // Two sheets and a book: their keys loaded, then what the edits reach.
-ghost use Rattle.std.specs.Prelude.{◌≡◌, ◌≤◌, length};
-ghost use Rattle.sheet.specs.Checked.{Checked};
-ghost use Rattle.book.specs.Checked.{CheckedBook};
-ghost use Rattle.book.specs.Sizes.{pane_count};
-ghost use Rattle.channel.specs.Channel.{channel_count};
-ghost use Rattle.edit.specs.Keys.{keys};
-ghost use Rattle.reach.specs.Ready.{ComparedIn};
+ghost use Rattle.std.specs.Prelude.{◌≤◌};
 
-use crate::animation::say_animations;
+use crate::compared::Compared;
+use crate::follows::say_follows;
+use crate::marks::Marks;
 use crate::other::say_other;
 use crate::summary::say_summary;
-use cli_page::{Out, PAGE};
+use crate::tracks::say_tracks;
+use cli_facts::{Files, Keys};
+use cli_page::Out;
 
-// Marks of one animation, as long as the book has channels and panes, and beside them those of all.
-fn with_marks(
-    o: Out,
-    page: &mut [u8; PAGE],
-    s: &[u8],
-    b: &[u8],
-    frames: &[f32],
-    values: &[f32],
-    slopes: &[f32],
-    new_frames: &[f32],
-    new_values: &[f32],
-    new_slopes: &[f32],
-    channels: &mut [u8],
-    panes: &mut [u8],
-    all_channels: &mut [u8],
-    all_panes: &mut [u8],
-) -> Out
-    requires compared_in { ComparedIn s.now b.now (keys frames.now values.now slopes.now) (keys new_frames.now new_values.now new_slopes.now) }
-    requires channels_len { (length channels.old ≡ channel_count b.now) × (length panes.old ≡ pane_count b.now) }
-{
-    let p = say_animations(
-        o,
-        page,
-        s,
-        b,
-        frames,
-        values,
-        slopes,
-        new_frames,
-        new_values,
-        new_slopes,
-        channels,
-        panes,
-        all_channels,
-        all_panes,
-    );
-    say_summary(
-        p,
-        page,
-        s,
-        b,
-        frames,
-        values,
-        slopes,
-        new_frames,
-        new_values,
-        new_slopes,
-        all_channels,
-        all_panes,
-    )
+// The most keys of a sheet.
+const MOST_KEYS: usize = 2048;
+
+// The keys of a sheet: room for as many as any sheet has, since nothing here allocates.
+#[derive(Clone, Copy)]
+struct Loaded {
+    frames: [f32; MOST_KEYS],
+    values: [f32; MOST_KEYS],
+    slopes: [f32; MOST_KEYS],
 }
 
-fn with_mark_room(
-    o: Out,
-    page: &mut [u8; PAGE],
-    s: &[u8],
-    b: &[u8],
-    frames: &[f32],
-    values: &[f32],
-    slopes: &[f32],
-    new_frames: &[f32],
-    new_values: &[f32],
-    new_slopes: &[f32],
-    channels: &mut [u8],
-    panes: &mut [u8],
-    all_channels: &mut [u8],
-    all_panes: &mut [u8],
-) -> Out
-    requires compared_in { ComparedIn s.now b.now (keys frames.now values.now slopes.now) (keys new_frames.now new_values.now new_slopes.now) }
-    requires in_bounds { (2752 ≤ length channels.old) × (64 ≤ length panes.old) }
-{
-    let n = channel::channel_count(b);
-    let m = book::pane_count(b);
-    with_marks(
-        o,
-        page,
-        s,
-        b,
-        frames,
-        values,
-        slopes,
-        new_frames,
-        new_values,
-        new_slopes,
-        &mut channels[..n],
-        &mut panes[..m],
-        all_channels,
-        all_panes,
-    )
+impl Loaded {
+    fn of(sheet: &[u8], n: usize) -> Loaded
+        requires { n ≤ 2048 }
+    {
+        let mut frames = [0.0f32; MOST_KEYS];
+        let mut values = [0.0f32; MOST_KEYS];
+        let mut slopes = [0.0f32; MOST_KEYS];
+        let _ = keys::load_keys(sheet, &mut frames[..n], &mut values[..n], &mut slopes[..n]);
+        Loaded {
+            frames,
+            values,
+            slopes,
+        }
+    }
+
+    fn keys(&self, n: usize) -> Keys<'_>
+        requires { n ≤ 2048 }
+    {
+        Keys {
+            frames: &self.frames[..n],
+            values: &self.values[..n],
+            slopes: &self.slopes[..n],
+        }
+    }
 }
 
-fn compared(
-    o: Out,
-    page: &mut [u8; PAGE],
-    s: &[u8],
-    b: &[u8],
-    frames: &[f32],
-    values: &[f32],
-    slopes: &[f32],
-    new_frames: &[f32],
-    new_values: &[f32],
-    new_slopes: &[f32],
-) -> Out
-    requires { ComparedIn s.now b.now (keys frames.now values.now slopes.now) (keys new_frames.now new_values.now new_slopes.now) }
-{
-    let mut channels = [0u8; 2752];
-    let mut panes = [0u8; 64];
-    let mut all_channels = [0u8; 2752];
-    let mut all_panes = [0u8; 64];
-    with_mark_room(
-        o,
-        page,
-        s,
-        b,
-        frames,
-        values,
-        slopes,
-        new_frames,
-        new_values,
-        new_slopes,
-        &mut channels,
-        &mut panes,
-        &mut all_channels,
-        &mut all_panes,
-    )
+// What the edits reach, animation by animation, and together.
+fn say_compared(out: &mut Out, compared: Compared<'_>) {
+    let mut all = Marks::none();
+    for a in 0..sheet::animation_count(compared.files.sheet.bytes) {
+        let marks = Marks::of(compared, a);
+        all.merge(&marks);
+        say_tracks(out, compared, a);
+        say_follows(out, compared, a, &marks.panes);
+    }
+    say_summary(out, compared, &all);
 }
 
+// What the edits that made the sheet `edited` of the sheet of the files reach in the book; `old` and `new` are the sheets' names.
 // Keys that break the rules are told before, by whoever calls this.
-fn checked(
-    o: Out,
-    page: &mut [u8; PAGE],
-    s: &[u8],
-    b: &[u8],
-    frames: &[f32],
-    values: &[f32],
-    slopes: &[f32],
-    new_frames: &[f32],
-    new_values: &[f32],
-    new_slopes: &[f32],
-) -> Out
-    requires { Checked s.now × CheckedBook b.now }
-{
-    if !keys::keys_ok(s, frames, values, slopes) {
-        return o;
+pub fn say_reach(out: &mut Out, old: &[u8], new: &[u8], files: Files<'_>, edited: &[u8]) {
+    let sheet = files.sheet;
+    if !reach::same_sheet(sheet.bytes, edited) {
+        say_other(out, old, new, sheet, edited);
+        return;
     }
-    if !keys::keys_ok(s, new_frames, new_values, new_slopes) {
-        return o;
+    let n = sheet::key_count(sheet.bytes);
+    let before = Loaded::of(sheet.bytes, n);
+    let after = Loaded::of(edited, n);
+    if let Some(compared) = Compared::new(files, before.keys(n), after.keys(n)) {
+        say_compared(out, compared);
     }
-    compared(
-        o, page, s, b, frames, values, slopes, new_frames, new_values, new_slopes,
-    )
-}
-
-// The keys of both sheets.
-fn with_keys<'a>(
-    o: Out,
-    page: &mut [u8; PAGE],
-    s: &'a [u8],
-    t: &'a [u8],
-    b: &[u8],
-    frames: &mut [f32],
-    values: &mut [f32],
-    slopes: &mut [f32],
-    new_frames: &mut [f32],
-    new_values: &mut [f32],
-    new_slopes: &mut [f32],
-) -> Out
-    requires { Checked s.now × CheckedBook b.now }
-{
-    keys::load_keys(s, frames, values, slopes);
-    keys::load_keys(t, new_frames, new_values, new_slopes);
-    checked(
-        o, page, s, b, frames, values, slopes, new_frames, new_values, new_slopes,
-    )
-}
-
-// Key arrays as long as the sheets have keys.
-fn with_room<'a>(
-    o: Out,
-    page: &mut [u8; PAGE],
-    s: &'a [u8],
-    t: &'a [u8],
-    b: &[u8],
-    frames: &mut [f32],
-    values: &mut [f32],
-    slopes: &mut [f32],
-    new_frames: &mut [f32],
-    new_values: &mut [f32],
-    new_slopes: &mut [f32],
-) -> Out
-    requires checked { Checked s.now × CheckedBook b.now }
-    requires in_bounds { ((2048 ≤ length frames.old) × ((2048 ≤ length values.old) × (2048 ≤ length slopes.old))) × ((2048 ≤ length new_frames.old) × ((2048 ≤ length new_values.old) × (2048 ≤ length new_slopes.old))) }
-{
-    let n = sheet::key_count(s);
-    with_keys(
-        o,
-        page,
-        s,
-        t,
-        b,
-        &mut frames[..n],
-        &mut values[..n],
-        &mut slopes[..n],
-        &mut new_frames[..n],
-        &mut new_values[..n],
-        &mut new_slopes[..n],
-    )
-}
-
-// What the edits that made the sheet t of the sheet s reach in the book; `old` and `new` are the sheets' names.
-pub fn say_reach<'a>(
-    o: Out,
-    page: &mut [u8; PAGE],
-    old: &[u8],
-    new: &[u8],
-    s: &'a [u8],
-    t: &'a [u8],
-    b: &[u8],
-) -> Out
-    requires { Checked s.now × CheckedBook b.now }
-{
-    if !reach::same_sheet(s, t) {
-        return say_other(o, page, old, new, s, t);
-    }
-    let mut frames = [0.0f32; 2048];
-    let mut values = [0.0f32; 2048];
-    let mut slopes = [0.0f32; 2048];
-    let mut new_frames = [0.0f32; 2048];
-    let mut new_values = [0.0f32; 2048];
-    let mut new_slopes = [0.0f32; 2048];
-    with_room(
-        o,
-        page,
-        s,
-        t,
-        b,
-        &mut frames,
-        &mut values,
-        &mut slopes,
-        &mut new_frames,
-        &mut new_values,
-        &mut new_slopes,
-    )
 }

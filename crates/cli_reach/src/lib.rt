@@ -2,10 +2,11 @@
 // follow, then every pane and material touched or untouched.
 #![tactic(auto)]
 
-mod animation;
 mod changes;
 mod command;
+mod compared;
 mod follows;
+mod marks;
 mod other;
 mod runs;
 mod summary;

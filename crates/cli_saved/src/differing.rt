@@ -8,12 +8,10 @@ pub fn differing(a: &[u8], b: &[u8]) -> usize
     ensures { result ≡ differing_of a.now b.now }
 {
     let mut n = 0;
-    let mut i = 0;
-    while i < a.len() {
+    for i in 0..a.len() {
         if a[i] != b[i] {
             n += 1;
         }
-        i += 1;
     }
     n
 }

@@ -3,99 +3,54 @@
 
 mod differing;
 
-ghost use Rattle.std.specs.Prelude.{◌≡◌, length};
-ghost use Rattle.sheet.specs.Checked.{Checked};
-
-use cli_command::LONGEST;
-use cli_page::{Out, PAGE, count};
+use cli_command::{LONGEST, Unwritten};
+use cli_facts::{Keys, Sheet};
+use cli_page::{Out, Status};
 use differing::differing;
 use player::Player;
 
-// `saved N bytes in FILE, D differ from the loaded sheet`; a path of no bytes is no file.
-fn say_saved(o: Out, page: &mut [u8; PAGE], path: &[u8], bytes: usize, differ: usize) -> Out {
-    let a = cli_page::note(o, page, b"answer", b"saved");
-    let b = count(a, page, b" saved ", b"bytes", bytes as u64);
-    let c = cli_page::lead(b, page, b" bytes");
-    let d = say_path(c, page, path);
-    let e = count(d, page, b", ", b"differ", differ as u64);
-    cli_page::end(
-        cli_page::lead(e, page, b" differ from the loaded sheet"),
-        page,
-    )
-}
-
-fn say_path(o: Out, page: &mut [u8; PAGE], path: &[u8]) -> Out {
-    if path.len() > 0 {
-        return cli_page::bytes(o, page, b" in ", b"file", path);
+// `saved N bytes in FILE, D differ from the loaded sheet`.
+fn say_saved(out: &mut Out, path: Option<&[u8]>, bytes: usize, differ: usize) {
+    out.note("answer", "saved");
+    out.count(" saved ", "bytes", bytes as u64);
+    out.lead(" bytes");
+    if let Some(path) = path {
+        out.bytes(" in ", "file", path);
     }
-    o
-}
-
-// The saved bytes in the file that is named, if one is, and what is said of them. Where the file can't be written, that is said in its place.
-fn keep<'a>(o: Out, page: &mut [u8; PAGE], s: &'a [u8], out: &'a [u8], path: &[u8]) -> Out
-    requires { length out.now ≡ length s.now }
-{
-    if path.len() > 0 {
-        let wrong = cli_command::write(o.rt, path, out);
-        if wrong != 0 {
-            return cannot_write(o, page, path, wrong);
-        }
-    }
-    say_saved(o, page, path, out.len(), differing(s, out))
+    out.count(", ", "differ", differ as u64);
+    out.lead(" differ from the loaded sheet");
+    out.end();
 }
 
 // The answer of a save whose file could not be written; the list goes on.
-fn cannot_write(o: Out, page: &mut [u8; PAGE], path: &[u8], wrong: u8) -> Out {
-    let p = cli_page::note(
-        cli_page::came_to(o, cli_page::WRONG),
-        page,
-        b"answer",
-        b"error",
-    );
-    let q = cli_page::bytes(p, page, b" error: ", b"file", path);
-    let r = if wrong == cli_command::NOT_OPENED {
-        cli_page::word(q, page, b": ", b"error", b"cannot be opened for writing")
-    } else {
-        cli_page::word(q, page, b": ", b"error", b"cannot be written whole")
+fn cannot_write(out: &mut Out, path: &[u8], why: Unwritten) {
+    out.came_to(Status::Wrong);
+    out.note("answer", "error");
+    out.bytes(" error: ", "file", path);
+    let words = match why {
+        Unwritten::NotOpened => "cannot be opened for writing",
+        Unwritten::NotWhole => "cannot be written whole",
     };
-    cli_page::end(r, page)
+    out.word(": ", "error", words);
+    out.end();
 }
 
-// With a buffer that is as long as the sheet.
-fn save_in(
-    o: Out,
-    page: &mut [u8; PAGE],
-    p: Player,
-    s: &[u8],
-    frames: &[f32],
-    values: &[f32],
-    slopes: &[f32],
-    out: &mut [u8],
-    path: &[u8],
-) -> Out
-    requires { length out.old ≡ length s.now }
-{
-    let refusal = menu::save(p, s, frames, values, slopes, out);
-    if refusal != 0 {
-        return cli_page::end(cli_printed::refusal(o, page, b" ", refusal), page);
-    }
-    keep(o, page, s, out, path)
-}
-
-// Saves, to a file where path has bytes, and answers with the line's end.
-pub fn save(
-    o: Out,
-    page: &mut [u8; PAGE],
-    p: Player,
-    s: &[u8],
-    frames: &[f32],
-    values: &[f32],
-    slopes: &[f32],
-    path: &[u8],
-) -> Out
-    requires { Checked s.now }
-{
+// Saves, to a file where one is named, and answers with the line's end. Where the file can't be written, that is said in the answer's place.
+pub fn save(out: &mut Out, p: &Player, sheet: Sheet<'_>, keys: Keys<'_>, path: Option<&[u8]>) {
+    let loaded = sheet.bytes;
     let mut room = [0u8; LONGEST];
-    let n = s.len();
-    save_in(o, page, p, s, frames, values, slopes, &mut room[..n], path)
+    let saved = &mut room[..loaded.len()];
+    let refusal = menu::save(*p, loaded, keys.frames, keys.values, keys.slopes, saved);
+    if refusal != 0 {
+        cli_printed::refusal(out, " ", refusal);
+        out.end();
+        return;
+    }
+    if let Some(path) = path {
+        if let Err(why) = cli_command::write(out.rt, path, saved) {
+            cannot_write(out, path, why);
+            return;
+        }
+    }
+    say_saved(out, path, saved.len(), differing(loaded, saved));
 }

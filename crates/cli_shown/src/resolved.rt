@@ -1,43 +1,36 @@
 // Resolved answers, on one line.
 use cli_numbers::number;
-use cli_page::{Out, PAGE};
+use cli_page::Out;
 use float::{Srt, Vector2, Vector3};
 use menu_readings::ResolvedPane;
 
-fn translation(o: Out, page: &mut [u8; PAGE], v: Vector3) -> Out {
-    let p = number(o, page, b" translation ", b"translate_x", v.x);
-    let q = number(p, page, b" ", b"translate_y", v.y);
-    number(q, page, b" ", b"translate_z", v.z)
+// `words` stand in front of the first number, and a space in front of the others.
+fn say_two(out: &mut Out, words: &str, names: [&str; 2], v: Vector2) {
+    number(out, words, names[0], v.x);
+    number(out, " ", names[1], v.y);
 }
 
-fn rotation(o: Out, page: &mut [u8; PAGE], v: Vector3) -> Out {
-    let p = number(o, page, b" rotation ", b"rotate_x", v.x);
-    let q = number(p, page, b" ", b"rotate_y", v.y);
-    number(q, page, b" ", b"rotate_z", v.z)
+fn say_three(out: &mut Out, words: &str, names: [&str; 3], v: Vector3) {
+    number(out, words, names[0], v.x);
+    number(out, " ", names[1], v.y);
+    number(out, " ", names[2], v.z);
 }
 
-fn scale(o: Out, page: &mut [u8; PAGE], v: Vector2) -> Out {
-    let p = number(o, page, b" scale ", b"scale_x", v.x);
-    number(p, page, b" ", b"scale_y", v.y)
-}
-
-fn size(o: Out, page: &mut [u8; PAGE], v: Vector2) -> Out {
-    let p = number(o, page, b" size ", b"size_x", v.x);
-    number(p, page, b" ", b"size_y", v.y)
-}
-
-pub fn say_pane(o: Out, page: &mut [u8; PAGE], r: ResolvedPane) -> Out {
-    let p = cli_facts::say_shown(o, page, b" ", r.visible);
-    let q = number(p, page, b" alpha ", b"alpha", r.alpha);
+pub fn say_pane(out: &mut Out, r: ResolvedPane) {
     let t = r.transform;
-    let u = rotation(translation(q, page, t.translation), page, t.rotation);
-    size(scale(u, page, t.scale), page, t.size)
+    cli_facts::say_shown(out, " ", r.visible);
+    number(out, " alpha ", "alpha", r.alpha);
+    let translation = ["translate_x", "translate_y", "translate_z"];
+    say_three(out, " translation ", translation, t.translation);
+    let rotation = ["rotate_x", "rotate_y", "rotate_z"];
+    say_three(out, " rotation ", rotation, t.rotation);
+    say_two(out, " scale ", ["scale_x", "scale_y"], t.scale);
+    say_two(out, " size ", ["size_x", "size_y"], t.size);
 }
 
-pub fn say_srt(o: Out, page: &mut [u8; PAGE], t: Srt) -> Out {
-    let p = number(o, page, b" translate ", b"translate_u", t.translate.x);
-    let q = number(p, page, b" ", b"translate_v", t.translate.y);
-    let r = number(q, page, b" rotate ", b"rotate", t.rotate);
-    let u = number(r, page, b" scale ", b"scale_u", t.scale.x);
-    number(u, page, b" ", b"scale_v", t.scale.y)
+pub fn say_srt(out: &mut Out, t: Srt) {
+    let translate = ["translate_u", "translate_v"];
+    say_two(out, " translate ", translate, t.translate);
+    number(out, " rotate ", "rotate", t.rotate);
+    say_two(out, " scale ", ["scale_u", "scale_v"], t.scale);
 }

@@ -1,234 +1,90 @@
 // The calls that show something: a single reading, all channels, a resolved pane or layer, names, the cascade, the keys, the player.
-ghost use Rattle.sheet.specs.Checked.{Checked};
-ghost use Rattle.book.specs.Checked.{CheckedBook};
-
 use crate::resolved::{say_pane, say_srt};
 use crate::state::say_player;
 use crate::tracks::say_keys;
-use cli_calls::{
-    CASCADE, Call, KEYS, NAME, NEXT, PLAYER, READ_ALL, READ_MATERIAL, READ_PANE, RESOLVE_PANE,
-    RESOLVE_SRT,
-};
-use cli_facts::Lead;
-use cli_page::{Out, PAGE, end};
+use cli_calls::{Call, Verb};
+use cli_facts::{Lead, Menu, Sheet, slot_of};
+use cli_page::Out;
+use cli_printed::Owner;
 use cli_why::say_declined;
 use laws::refusal::NO_ANIMATION;
-use menu_readings::ReadOne;
 use player::Player;
 use reading::Reading;
 
-// What one channel reads.
-fn say_reading<'a>(
-    o: Out,
-    page: &mut [u8; PAGE],
-    p: Player,
-    c: Call,
-    r: Reading,
-    s: &'a [u8],
-    b: &'a [u8],
-    frames: &[f32],
-    values: &[f32],
-    slopes: &[f32],
-) -> Out {
-    match r {
-        Reading::Nothing => cli_page::word(o, page, b" ", b"answer", b"none"),
-        Reading::Number(x) => cli_numbers::number(o, page, b" ", b"number", x),
-        Reading::Shown(v) => cli_facts::say_shown(o, page, b" ", v),
-        Reading::Row(row) => {
-            let slot = cli_facts::slot_of(c.second);
-            cli_facts::say_row(o, page, p, s, b, frames, values, slopes, c.first, slot, row)
-        }
-        Reading::Level(n) => cli_page::count(o, page, b" level ", b"level", n as u64),
-    }
-}
-
-fn say_one<'a>(
-    o: Out,
-    page: &mut [u8; PAGE],
-    p: Player,
-    c: Call,
-    one: ReadOne,
-    s: &'a [u8],
-    b: &'a [u8],
-    frames: &[f32],
-    values: &[f32],
-    slopes: &[f32],
-) -> Out
-    requires { Checked s.now × CheckedBook b.now }
-{
-    if one.refusal != 0 {
-        return say_declined(o, page, one.refusal, p.selection, c, s, b);
-    }
-    let r = one.reading;
-    say_reading(o, page, p, c, r, s, b, frames, values, slopes)
+// What one channel reads; the name of a row is that of the material's texture slot.
+fn say_one(out: &mut Out, p: &Player, c: Call, owner: Owner, menu: Menu<'_>) -> Result<(), u8> {
+    let reading = menu.read(p, owner, c.first, c.second)?;
+    let slot = match reading {
+        Reading::Row(_) => slot_of(c.second as usize),
+        _ => None,
+    };
+    let name = slot.map(|slot| menu.texture_name(p, c.first, slot));
+    cli_facts::say_reading(out, reading, name);
+    Ok(())
 }
 
 // The name of a material's texture slot; its refusal is that of reading the slot.
-fn say_texture<'a>(
-    o: Out,
-    page: &mut [u8; PAGE],
-    p: Player,
-    c: Call,
-    s: &'a [u8],
-    b: &'a [u8],
-    frames: &[f32],
-    values: &[f32],
-    slopes: &[f32],
-) -> Out
-    requires { Checked s.now × CheckedBook b.now }
-{
-    let slot = channel::slot_channel(c.second);
-    let one = menu_readings::read_material(p, s, b, frames, values, slopes, c.first, slot);
-    if one.refusal != 0 {
-        return say_declined(o, page, one.refusal, p.selection, c, s, b);
-    }
-    let name = menu_readings::texture_name(p, s, b, frames, values, slopes, c.first, c.second);
-    cli_printed::name(o, page, b" name ", b"texture", name)
+fn say_texture(out: &mut Out, p: &Player, c: Call, menu: Menu<'_>) -> Result<(), u8> {
+    menu.read(p, Owner::Material, c.first, channel::slot_channel(c.second))?;
+    let name = menu.texture_name(p, c.first, c.second);
+    cli_printed::name(out, " name ", "texture", name);
+    Ok(())
 }
 
 // The name of the animation that follows one. The sheet's row says whether there is one: a name that is there may be empty.
-fn say_next<'a>(o: Out, page: &mut [u8; PAGE], c: Call, s: &'a [u8], b: &'a [u8]) -> Out
-    requires { Checked s.now × CheckedBook b.now }
-{
-    let i = c.first as usize;
-    if i >= sheet::animation_count(s) {
-        return say_declined(o, page, NO_ANIMATION, 0, c, s, b);
+fn say_next(out: &mut Out, animation: u16, sheet: Sheet<'_>) -> Result<(), u8> {
+    let i = animation as usize;
+    if i >= sheet::animation_count(sheet.bytes) {
+        return Err(NO_ANIMATION);
     }
-    let row = sheet::animation_row(s, i);
-    if !row.next {
-        return cli_page::word(o, page, b" ", b"answer", b"none");
+    if sheet::animation_row(sheet.bytes, i).next {
+        cli_printed::name(
+            out,
+            " next ",
+            "next",
+            menu::next_name(sheet.bytes, animation),
+        );
+    } else {
+        out.word(" ", "answer", "none");
     }
-    cli_printed::name(o, page, b" next ", b"next", menu::next_name(s, c.first))
+    Ok(())
 }
 
-// A single reading.
-fn read_one<'a>(
-    p: Player,
-    c: Call,
-    s: &'a [u8],
-    b: &'a [u8],
-    frames: &[f32],
-    values: &[f32],
-    slopes: &[f32],
-) -> ReadOne {
-    if c.verb == READ_PANE {
-        return menu_readings::read_pane(p, s, b, frames, values, slopes, c.first, c.second);
+// An answer of one line, or the number of the refusal.
+fn show_one(out: &mut Out, p: &Player, c: Call, menu: Menu<'_>) -> Result<(), u8> {
+    match c.verb {
+        Verb::ReadPane => say_one(out, p, c, Owner::Pane, menu)?,
+        Verb::ReadMaterial => say_one(out, p, c, Owner::Material, menu)?,
+        Verb::ResolvePane => say_pane(out, menu.resolve_pane(p, c.first)?),
+        Verb::ResolveSrt => say_srt(out, menu.resolve_srt(p, c.first, c.second)?),
+        Verb::Name => say_texture(out, p, c, menu)?,
+        Verb::Next => say_next(out, c.first, menu.files.sheet)?,
+        Verb::Player => say_player(out, p),
+        _ => {}
     }
-    menu_readings::read_material(p, s, b, frames, values, slopes, c.first, c.second)
+    Ok(())
 }
 
-fn resolve_pane<'a>(
-    o: Out,
-    page: &mut [u8; PAGE],
-    p: Player,
-    c: Call,
-    s: &'a [u8],
-    b: &'a [u8],
-    frames: &[f32],
-    values: &[f32],
-    slopes: &[f32],
-) -> Out
-    requires { Checked s.now × CheckedBook b.now }
-{
-    let r = menu_readings::resolve_pane(p, s, b, frames, values, slopes, c.first);
-    if r.refusal != 0 {
-        return say_declined(o, page, r.refusal, p.selection, c, s, b);
-    }
-    say_pane(o, page, r)
-}
-
-fn resolve_srt<'a>(
-    o: Out,
-    page: &mut [u8; PAGE],
-    p: Player,
-    c: Call,
-    s: &'a [u8],
-    b: &'a [u8],
-    frames: &[f32],
-    values: &[f32],
-    slopes: &[f32],
-) -> Out
-    requires { Checked s.now × CheckedBook b.now }
-{
-    let r = menu_readings::resolve_srt(p, s, b, frames, values, slopes, c.first, c.second);
-    if r.refusal != 0 {
-        return say_declined(o, page, r.refusal, p.selection, c, s, b);
-    }
-    let t = r.srt;
-    say_srt(o, page, t)
-}
-
-// An answer of one line.
-fn show_one<'a>(
-    o: Out,
-    page: &mut [u8; PAGE],
-    p: Player,
-    c: Call,
-    s: &'a [u8],
-    b: &'a [u8],
-    frames: &[f32],
-    values: &[f32],
-    slopes: &[f32],
-) -> Out
-    requires { Checked s.now × CheckedBook b.now }
-{
-    let verb = c.verb;
-    match verb {
-        READ_PANE | READ_MATERIAL => {
-            let one = read_one(p, c, s, b, frames, values, slopes);
-            say_one(o, page, p, c, one, s, b, frames, values, slopes)
+// The answer, with the line's end. One of several lines stands behind one that has the call alone.
+pub fn show(out: &mut Out, line: u64, p: &Player, c: Call, menu: Menu<'_>) {
+    match c.verb {
+        Verb::ReadAll => {
+            out.end();
+            cli_facts::say_readings(out, Lead::Line(line), p, menu);
         }
-        RESOLVE_PANE => resolve_pane(o, page, p, c, s, b, frames, values, slopes),
-        RESOLVE_SRT => resolve_srt(o, page, p, c, s, b, frames, values, slopes),
-        NAME => say_texture(o, page, p, c, s, b, frames, values, slopes),
-        NEXT => say_next(o, page, c, s, b),
-        PLAYER => say_player(o, page, p),
-        _ => o,
+        Verb::Cascade => {
+            out.end();
+            cli_facts::say_cascade(out, Lead::Line(line), p, menu);
+        }
+        Verb::Keys => {
+            out.end();
+            say_keys(out, line, menu.files.sheet, menu.keys);
+        }
+        _ => {
+            if let Err(refusal) = show_one(out, p, c, menu) {
+                say_declined(out, refusal, p.selection, c, menu.files);
+            }
+            out.end();
+        }
     }
-}
-
-// An answer of several lines, behind one that has the call alone.
-fn show_many<'a>(
-    o: Out,
-    page: &mut [u8; PAGE],
-    line: u64,
-    p: Player,
-    c: Call,
-    s: &'a [u8],
-    b: &'a [u8],
-    frames: &[f32],
-    values: &[f32],
-    slopes: &[f32],
-) -> Out
-    requires { Checked s.now × CheckedBook b.now }
-{
-    let q = end(o, page);
-    if c.verb == READ_ALL {
-        return cli_facts::say_readings(q, page, Lead::Line(line), p, s, b, frames, values, slopes);
-    }
-    if c.verb == CASCADE {
-        return cli_facts::say_cascade(q, page, Lead::Line(line), p, s, b, frames, values, slopes);
-    }
-    say_keys(q, page, line, s, frames, values, slopes)
-}
-
-// The answer, with the line's end.
-pub fn show<'a>(
-    o: Out,
-    page: &mut [u8; PAGE],
-    line: u64,
-    p: Player,
-    c: Call,
-    s: &'a [u8],
-    b: &'a [u8],
-    frames: &[f32],
-    values: &[f32],
-    slopes: &[f32],
-) -> Out
-    requires { Checked s.now × CheckedBook b.now }
-{
-    if (c.verb == READ_ALL) | (c.verb == CASCADE) | (c.verb == KEYS) {
-        return show_many(o, page, line, p, c, s, b, frames, values, slopes);
-    }
-    end(show_one(o, page, p, c, s, b, frames, values, slopes), page)
 }

@@ -4,5 +4,5 @@
 mod number;
 mod part;
 
-pub use number::{Decimal, Number, TOO_LARGE, pattern, read_number, whole};
-pub use part::{is_quoted, piece, pieces, same, uncommented, unquoted, word};
+pub use number::{TOO_LARGE, pattern, read_number, whole};
+pub use part::{Pieces, Words, is_quoted, unquoted, word};

@@ -1,13 +1,12 @@
 // Numbers as a text has them: whole ones, decimals as -12.375, and bit patterns as 0x41480000.
-ghost use Rattle.std.specs.Prelude.{◌≡◌, ◌<◌, ◌≤◌, length, from_bits};
+ghost use Rattle.std.specs.Prelude.{◌≡◌, ◌<◌, ◌≤◌, length, from_bits, IfSome};
 ghost use Rattle.std.specs.Float.{binary32};
-ghost use Rattle.cli_words.specs.Numbers.{too_large, is_digit, digit_after, whole_of, decimal_after, decimal_of, quotient_of, unsigned_of, signed_of, negated, hex_digit, hex_after, hex_of, bits_of, number_of};
-ghost use Rattle.cli_words.specs.Numbers.{held as held_to};
+ghost use Rattle.cli_words.specs.Numbers.{too_large, below, is_digit, written, written_after, whole_of, decimal_after, decimal_of, fitting, quotient_of, unsigned_of, signed_of, no_pattern, hex_all, bits_of, number_of};
 
-// 2^24: what is written badly, or is not below it, counts as this. Below it every whole number is an f32.
+// 2^24: below it every whole number is an f32.
 pub const TOO_LARGE: u64 = 16777216;
 
-// 2^32: the same for a bit pattern.
+// 2^32: no bit pattern is larger.
 const NO_PATTERN: u64 = 4294967296;
 
 const MINUS: u8 = 45;
@@ -16,247 +15,162 @@ const POINT: u8 = 46;
 
 const ZERO: u8 = 48;
 
-const NINE: u8 = 57;
+const LOWER_X: u8 = 120;
 
-// The digits without the point; `scale` is 0 before the point, and then ten to the number of digits after it.
+// The digits without the point; `scale` is 0 before the point, and then ten to the number of digits after it. No ghost field bounds them, since the definitions
+// speak of decimals that are too large as well.
 #[derive(Clone, Copy)]
 pub struct Decimal {
     pub digits: u64,
     pub scale: u64,
 }
 
-#[derive(Clone, Copy)]
-pub enum Number {
-    Is(f32),
-    Not,
-}
-
-fn wide(b: u8) -> u64
-    ensures { (result ≡ b) × (result < 256) }
-{
-    b as u64
-}
-
+#[tactic(auto, using(std::proofs::lemmas::Bool::Decides::nat_tests), unfolding(crate::specs::Numbers::is_digit))]
 fn is_digit(b: u8) -> bool
     ensures { result ≡ is_digit b }
 {
-    (ZERO <= b) & (b <= NINE)
+    b.is_ascii_digit()
 }
 
-fn held(n: u64) -> u64
-    ensures { (result ≡ held_to n) × (result ≤ too_large) }
+// The number n with the digit b after it, where that is below the limit.
+#[tactic(auto, using(std::proofs::lemmas::Bool::Decides::nat_tests), unfolding(crate::specs::Numbers::written_after))]
+fn digit_after(n: u64, b: u8, base: u32, limit: u64) -> Option<u64>
+    requires { (n < limit) × (limit ≤ 4294967296) × (2 ≤ base) × (base ≤ 16) }
+    ensures value { result ≡ below limit (written_after base limit n b) }
+    ensures below { IfSome result (λ m. (m < limit) × (m ≡ written_after base limit n b)) }
 {
-    if n < TOO_LARGE { n } else { TOO_LARGE }
+    let digit = char::from(b).to_digit(base)?;
+    let more = n * base as u64 + digit as u64;
+    if more < limit { Some(more) } else { None }
 }
 
-fn digit_after(v: u64, b: u8) -> u64
-    requires { v ≤ too_large }
-    ensures { (result ≡ digit_after v b) × (result ≤ too_large) }
+// The number below the limit that s writes to a base. Nothing written is 0.
+#[tactic(auto, using(crate::specs::Grown::written_none, crate::specs::Grown::written_more, crate::specs::Grown::spoilt))]
+fn number_to(s: &[u8], base: u32, limit: u64) -> Option<u64>
+    requires { (0 < limit) × (limit ≤ 4294967296) × (2 ≤ base) × (base ≤ 16) }
+    ensures value { result ≡ below limit (written base limit s.now (length s.now)) }
+    ensures below { IfSome result (λ n. n < limit) }
 {
-    if b < ZERO {
-        return TOO_LARGE;
+    let mut n = 0;
+    for b in s {
+        n = digit_after(n, *b, base, limit)?;
     }
-    if b > NINE {
-        return TOO_LARGE;
-    }
-    held(v * 10 + (wide(b) - 48))
+    Some(n)
 }
 
-// The whole number below 2^24 that s writes, or 2^24 where it writes none. Nothing written is 0.
-pub fn whole(s: &[u8]) -> u64
-    ensures { (result ≡ whole_of s.now (length s.now)) × (result ≤ too_large) }
+// The whole number below 2^24 that s writes. Nothing written is 0.
+#[tactic(auto, using(crate::specs::Grown::whole_is))]
+pub fn whole(s: &[u8]) -> Option<u32>
+    ensures value { result ≡ below too_large (whole_of s.now (length s.now)) }
+    ensures small { IfSome result (λ n. n < too_large) }
 {
-    let mut v = 0;
-    let mut i = 0;
-    while i < s.len() {
-        v = digit_after(v, s[i]);
-        i += 1;
-    }
-    v
+    number_to(s, 10, TOO_LARGE).map(|n| n as u32)
 }
 
-fn decimal_after(d: Decimal, b: u8) -> Decimal
-    requires { (d.digits ≤ too_large) × (d.scale ≤ too_large) }
-    ensures value { result ≡ decimal_after d b }
-    ensures digits_le_too_large { (result.digits ≤ too_large) × (result.scale ≤ too_large) }
+// The bit pattern that s writes in hexadecimal.
+#[tactic(auto, using(crate::specs::Grown::hex_is))]
+fn hexadecimal(s: &[u8]) -> Option<u32>
+    ensures { result ≡ below no_pattern (hex_all s.now) }
 {
-    if b == POINT {
-        if d.scale == 0 {
-            return Decimal {
-                digits: d.digits,
-                scale: 1,
-            };
+    number_to(s, 16, NO_PATTERN).map(|n| n as u32)
+}
+
+impl Decimal {
+    // The decimal with the byte b after it, which is a digit or the one point.
+    #[tactic(auto, using(std::proofs::lemmas::Bool::Decides::nat_tests, crate::specs::Grown::digit_same), unfolding(crate::specs::Numbers::decimal_after, crate::specs::Numbers::held))]
+    fn after(self, b: u8) -> Option<Decimal>
+        requires { (self.digits < too_large) × (self.scale < too_large) }
+        ensures value { result ≡ fitting (decimal_after self b) }
+        ensures below { IfSome result (λ d. (d.digits < too_large) × (d.scale < too_large) × (d ≡ decimal_after self b)) }
+    {
+        match (b, self.scale) {
+            (POINT, 0) => Some(Decimal { scale: 1, ..self }),
+            (POINT, _) => None,
+            _ => {
+                let digits = digit_after(self.digits, b, 10, TOO_LARGE)?;
+                let scale = self.scale * 10;
+                if scale < TOO_LARGE {
+                    Some(Decimal { digits, scale })
+                } else {
+                    None
+                }
+            }
         }
-        return Decimal {
-            digits: TOO_LARGE,
-            scale: 1,
-        };
-    }
-    Decimal {
-        digits: digit_after(d.digits, b),
-        scale: held(d.scale * 10),
     }
 }
 
-fn read_decimal(s: &[u8]) -> Decimal
-    ensures { result ≡ decimal_of s.now (length s.now) }
+#[tactic(auto, using(crate::specs::Grown::decimal_none, crate::specs::Grown::decimal_more, crate::specs::Grown::decimal_spoilt))]
+fn read_decimal(s: &[u8]) -> Option<Decimal>
+    ensures value { result ≡ fitting (decimal_of s.now (length s.now)) }
+    ensures below { IfSome result (λ d. (d.digits < too_large) × (d.scale < too_large)) }
 {
     let mut d = Decimal {
         digits: 0,
         scale: 0,
     };
-    let mut i = 0;
-    while i < s.len() {
-        d = decimal_after(d, s[i]);
-        i += 1;
+    for b in s {
+        d = d.after(*b)?;
     }
-    d
+    Some(d)
 }
 
+#[tactic(auto, using(std::proofs::lemmas::Bool::Decides::nat_tests), unfolding(crate::specs::Numbers::quotient_of))]
 fn quotient(d: Decimal) -> f32
     requires { (d.digits < too_large) × (d.scale < too_large) }
     ensures { result ≡ quotient_of d }
 {
     let n = std::num::nearest_u32_to_f32(d.digits as u32);
-    if d.scale == 0 {
-        return n / std::num::nearest_u32_to_f32(1);
-    }
-    n / std::num::nearest_u32_to_f32(d.scale as u32)
+    let scale = if d.scale == 0 { 1 } else { d.scale as u32 };
+    n / std::num::nearest_u32_to_f32(scale)
 }
 
-fn unsigned(s: &[u8]) -> Number
+#[tactic(auto, using(std::proofs::lemmas::Bool::Decides::nat_tests), unfolding(crate::specs::Numbers::unsigned_of))]
+fn unsigned(s: &[u8]) -> Option<f32>
     ensures { result ≡ unsigned_of s.now }
 {
-    if s.len() == 0 {
-        return Number::Not;
+    if s.is_empty() || !is_digit(s[0]) || !is_digit(s[s.len() - 1]) {
+        return None;
     }
-    if !is_digit(s[0]) {
-        return Number::Not;
-    }
-    let last = s.len() - 1;
-    if !is_digit(s[last]) {
-        return Number::Not;
-    }
-    let d = read_decimal(s);
-    if d.digits >= TOO_LARGE {
-        return Number::Not;
-    }
-    if d.scale >= TOO_LARGE {
-        return Number::Not;
-    }
-    Number::Is(quotient(d))
-}
-
-fn minus(n: Number) -> Number
-    ensures { result ≡ negated n }
-{
-    match n {
-        Number::Is(x) => Number::Is(-x),
-        Number::Not => Number::Not,
-    }
+    let d = read_decimal(s)?;
+    Some(quotient(d))
 }
 
 // The decimal that s writes, as -12.375: its digits without the point below 2^24, rounded once.
-fn signed(s: &[u8]) -> Number
+#[tactic(auto, using(std::proofs::lemmas::Bool::Decides::nat_tests), unfolding(crate::specs::Numbers::signed_of))]
+fn signed(s: &[u8]) -> Option<f32>
     ensures { result ≡ signed_of s.now }
 {
-    if s.len() == 0 {
-        return Number::Not;
+    let (first, rest) = s.split_first()?;
+    if *first == MINUS {
+        unsigned(rest).map(|x| -x)
+    } else {
+        unsigned(s)
     }
-    if s[0] == MINUS {
-        return minus(unsigned(&s[1..]));
-    }
-    unsigned(s)
-}
-
-// The value of a hexadecimal digit of either case, or 16.
-fn hex_digit(b: u8) -> u64
-    ensures { (result ≡ hex_digit b) × (result ≤ 16) }
-{
-    if b < 48 {
-        return 16;
-    }
-    if b < 58 {
-        return wide(b) - 48;
-    }
-    if b < 65 {
-        return 16;
-    }
-    if b < 71 {
-        return wide(b) - 55;
-    }
-    if b < 97 {
-        return 16;
-    }
-    if b < 103 {
-        return wide(b) - 87;
-    }
-    16
-}
-
-fn hex_after(v: u64, b: u8) -> u64
-    requires { v ≤ 4294967296 }
-    ensures { (result ≡ hex_after v b) × (result ≤ 4294967296) }
-{
-    let d = hex_digit(b);
-    if d >= 16 {
-        return NO_PATTERN;
-    }
-    if v >= 268435456 {
-        return NO_PATTERN;
-    }
-    v * 16 + d
-}
-
-// The number below 2^32 that s writes in hexadecimal, or 2^32.
-fn hexadecimal(s: &[u8]) -> u64
-    ensures { (result ≡ hex_of s.now (length s.now)) × (result ≤ 4294967296) }
-{
-    let mut v = 0;
-    let mut i = 0;
-    while i < s.len() {
-        v = hex_after(v, s[i]);
-        i += 1;
-    }
-    v
 }
 
 // The float of a bit pattern, a NaN's too.
 pub fn pattern(v: u32) -> f32
     ensures { result ≡ from_bits binary32 v }
 {
-    if v % 2147483648 > 2139095040 {
-        return 0.0 / 0.0;
-    }
-    f32::from_bits(v)
+    std::num::f32_from_bits_with_nan(v)
 }
 
 // The float that 0x and eight digits write by its bits.
-fn bits(s: &[u8]) -> Number
+#[tactic(auto, using(std::proofs::lemmas::Bool::Decides::nat_tests), unfolding(crate::specs::Numbers::bits_of))]
+fn bits(s: &[u8]) -> Option<f32>
     ensures { result ≡ bits_of s.now }
 {
-    if s.len() != 10 {
-        return Number::Not;
+    if s.len() != 10 || s[0] != ZERO || s[1] != LOWER_X {
+        return None;
     }
-    if s[0] != ZERO {
-        return Number::Not;
-    }
-    if s[1] != 120 {
-        return Number::Not;
-    }
-    let v = hexadecimal(&s[2..]);
-    if v >= NO_PATTERN {
-        return Number::Not;
-    }
-    Number::Is(pattern(v as u32))
+    let v = hexadecimal(&s[2..])?;
+    Some(pattern(v))
 }
 
 // A number as a text has it: in decimal, or by its bits.
-pub fn read_number(s: &[u8]) -> Number
+#[tactic(auto, using(std::proofs::lemmas::Bool::Decides::nat_tests), unfolding(crate::specs::Numbers::number_of))]
+pub fn read_number(s: &[u8]) -> Option<f32>
     ensures { result ≡ number_of s.now }
 {
-    match signed(s) {
-        Number::Is(x) => Number::Is(x),
-        Number::Not => bits(s),
-    }
+    signed(s).or_else(|| bits(s))
 }

@@ -4,5 +4,5 @@
 use std::process::ExitCode;
 
 fn main(rt: HostRuntime) -> ExitCode {
-    ExitCode::from(cli_console::start(rt))
+    ExitCode::from(cli_console::start(rt) as u8)
 }

@@ -1,11 +1,8 @@
 // The families of sheets and of books. A record is bytes and changes of them: how many bytes, how many changes (u16 each), the bytes, and for each change how
 // long the changed bytes are, where four of them are replaced (u16 each), those four, the refusal that they earn (u8), zero u8.
-use crate::sample::{Step, byte_in, count16_in, damaged, missed, past};
+ghost use Rattle.std.specs.Prelude.{◌≡◌, ◌<◌, length, IfSome};
 
-// A record's head and a change, in bytes.
-const HEAD: usize = 4;
-
-const CHANGE: usize = 10;
+use crate::sample::{Rest, Tally};
 
 // The most bytes of a record: the longest sheet, and one more.
 const MOST: usize = 31725;
@@ -13,84 +10,52 @@ const MOST: usize = 31725;
 // Where a sheet says how many keys it has.
 const KEY_COUNT: usize = 6;
 
-fn refusal_of(is_book: bool, b: &[u8]) -> u8 {
-    if is_book {
-        return if book::book_ok(b) { 0 } else { 2 };
-    }
-    let k = count16_in(b, KEY_COUNT);
-    keys::load_refusal(b, k, k, k)
+// How many keys bytes that are to be a sheet say that it has.
+fn key_count(bytes: &[u8]) -> Option<usize> {
+    let mut rest = Rest { bytes };
+    rest.take(KEY_COUNT)?;
+    rest.count()
 }
 
-// The record's bytes, and what follows them.
-fn stored(s: &[u8]) -> [u8; 31725] {
-    let mut bytes = [0; 31725];
-    let mut i = 0;
-    while i < 31725 {
-        bytes[i] = byte_in(s, past(HEAD, i));
-        i += 1;
-    }
-    bytes
+// The refusal of bytes that are to be a sheet, or 0.
+pub fn sheet_refusal(bytes: &[u8]) -> u8 {
+    let n = key_count(bytes).unwrap_or(0);
+    keys::load_refusal(bytes, n, n, n)
 }
 
-// The first n bytes.
-fn head<'a>(bytes: &'a [u8], n: usize) -> &'a [u8] {
-    if n < bytes.len() {
-        return &bytes[..n];
-    }
-    bytes
+// The refusal of bytes that are to be a book, or 0.
+pub fn book_refusal(bytes: &[u8]) -> u8 {
+    if book::book_ok(bytes) { 0 } else { 2 }
 }
 
-fn put(bytes: &mut [u8], at: usize, b: u8) {
-    if at < bytes.len() {
-        bytes[at] = b;
+// Puts bytes at a place, as far as there is room.
+fn put(bytes: &mut [u8], place: usize, from: &[u8]) {
+    for (to, b) in bytes.iter_mut().skip(place).zip(from) {
+        *to = *b;
     }
 }
 
-// Puts the four bytes that are stored at `from`.
-fn put_four(bytes: &mut [u8], place: usize, s: &[u8], from: usize) {
-    put(bytes, place, byte_in(s, from));
-    put(bytes, past(place, 1), byte_in(s, past(from, 1)));
-    put(bytes, past(place, 2), byte_in(s, past(from, 2)));
-    put(bytes, past(place, 3), byte_in(s, past(from, 3)));
-}
-
-// Whether the change at `at` earns its refusal. The bytes are the record's before and after.
-fn same(is_book: bool, bytes: &mut [u8], s: &[u8], at: usize) -> bool {
-    let long = count16_in(s, at);
-    let place = count16_in(s, past(at, 2));
-    put_four(bytes, place, s, past(at, 4));
-    let refusal = refusal_of(is_book, head(bytes, long));
-    put_four(bytes, place, s, past(HEAD, place));
-    refusal == byte_in(s, past(at, 8))
-}
-
-// How many of m changes differ, the first at `first`.
-fn changes(is_book: bool, bytes: &mut [u8], s: &[u8], first: usize, m: usize) -> usize {
-    let mut differ = 0;
-    let mut at = first;
-    let mut i = 0;
-    while i < m {
-        differ = past(differ, missed(same(is_book, bytes, s, at)));
-        at = past(at, CHANGE);
-        i += 1;
+// The record that the rest begins with. A change may be longer than the bytes: then what follows them in the sample goes on them.
+pub fn record<F: Fn(&[u8]) -> u8>(refusal_of: F, rest: &mut Rest, tally: &mut Tally) -> Option<()>
+    requires { F.IsAlwaysCallable refusal_of }
+    ensures { IfSome result (λ _. length rest.new.bytes.now < length rest.old.bytes.now) }
+{
+    let n = rest.count()?;
+    let changes = rest.count()?;
+    let mut bytes = [0u8; MOST];
+    put(&mut bytes, 0, rest.bytes);
+    rest.take(n)?;
+    if n > MOST {
+        return None;
     }
-    differ
-}
-
-// The record that s begins with, of books or of sheets.
-pub fn record(is_book: bool, s: &[u8]) -> Step {
-    let n = count16_in(s, 0);
-    let m = count16_in(s, 2);
-    let first = HEAD + n;
-    let size = first + m * CHANGE;
-    if (n > MOST) | (s.len() < size) {
-        return damaged();
+    for _ in 0..changes {
+        let long = rest.count()?;
+        let place = rest.count()?;
+        let four = rest.next::<4>()?;
+        let [refusal, _] = rest.next::<2>()?;
+        let mut changed = bytes;
+        put(&mut changed, place, &four);
+        tally.count(refusal_of(&changed[..long.min(MOST)]) == refusal);
     }
-    let mut bytes = stored(s);
-    let differ = changes(is_book, &mut bytes, s, first, m);
-    Step {
-        size,
-        cases: m,
-        differ,
-    }
+    Some(())
 }

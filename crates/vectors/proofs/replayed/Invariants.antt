@@ -1,9 +1,6 @@
--- `replayed` stays inside its slices. All records of a sample.
-use Rattle.std.proofs.Common.{◌-◌, length}
+-- The bytes left are fewer with each record.
+use Rattle.std.proofs.Common.{length}
 use Rattle.vectors.proofs.replayed.Given as goal
 
-abbrev pub invariant-loop-at : goal.invariant-loop-at
-invariant-loop-at l = Unit {0}
-
-abbrev pub decreases-loop-at : goal.decreases-loop-at
-decreases-loop-at l = length l.s - l.at
+abbrev pub decreases-loop-rest : goal.decreases-loop-rest
+decreases-loop-rest l = length l.rest.bytes.now

@@ -1,9 +1,10 @@
--- `indent` goes once over its rows and ends.
-use Prim.Native.Nat.{◌-◌, ◌≤◌}
+-- `indent` ends: a parent is a smaller row.
+use Rattle.std.proofs.Common.{◌<◌}
+use Rattle.book.specs.Sizes.{pane_count}
 use Rattle.cli_info.proofs.book_rows.indent.Given as goal
 
-abbrev pub invariant-loop-i : goal.invariant-loop-i
-invariant-loop-i l = l.i ≤ l.n
+abbrev pub invariant-loop-parent : goal.invariant-loop-parent
+invariant-loop-parent l = l.at < pane_count l.book.bytes.now
 
-abbrev pub decreases-loop-i : goal.decreases-loop-i
-decreases-loop-i l = l.n - l.i
+abbrev pub decreases-loop-parent : goal.decreases-loop-parent
+decreases-loop-parent l = l.at

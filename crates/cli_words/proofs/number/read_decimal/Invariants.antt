@@ -1,10 +1,7 @@
--- `read_decimal` answers `decimal_of`; its loop ends.
-use Rattle.std.proofs.Common.{◌≡◌, ◌-◌, ◌≤◌, length}
+-- `read_decimal` has read the bytes so far.
+use Rattle.std.proofs.Common.{◌≡◌, ◌<◌}
 use Rattle.cli_words.specs.Numbers.{decimal_of}
 use Rattle.cli_words.proofs.number.read_decimal.Given as goal
 
-abbrev pub invariant-loop-i : goal.invariant-loop-i
-invariant-loop-i l = (l.i ≤ length l.s) × ((l.d ≡ decimal_of l.s l.i) × ((l.d.digits ≤ 16777216) × (l.d.scale ≤ 16777216)))
-
-abbrev pub decreases-loop-i : goal.decreases-loop-i
-decreases-loop-i l = length l.s - l.i
+abbrev pub invariant-loop-b : goal.invariant-loop-b
+invariant-loop-b l = record { value : l.d ≡ decimal_of l.s l.b-index; digits : l.d.digits < 16777216; scale : l.d.scale < 16777216 }

@@ -1,2 +1,0 @@
--- What a verb asks for.
-pub mod Few

@@ -1,9 +1,0 @@
--- `has_empty` ends.
-use Prim.Native.Nat.{◌-◌, ◌≤◌}
-use Rattle.cli_command.proofs.arguments.has_empty.Given as goal
-
-abbrev pub invariant-loop-i : goal.invariant-loop-i
-invariant-loop-i l = l.i ≤ l.n
-
-abbrev pub decreases-loop-i : goal.decreases-loop-i
-decreases-loop-i l = l.n - l.i

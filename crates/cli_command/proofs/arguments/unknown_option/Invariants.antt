@@ -1,9 +1,0 @@
--- `unknown_option` ends.
-use Prim.Native.Nat.{◌-◌, ◌≤◌}
-use Rattle.cli_command.proofs.arguments.unknown_option.Given as goal
-
-abbrev pub invariant-loop-i : goal.invariant-loop-i
-invariant-loop-i l = l.i ≤ l.n
-
-abbrev pub decreases-loop-i : goal.decreases-loop-i
-decreases-loop-i l = l.n - l.i

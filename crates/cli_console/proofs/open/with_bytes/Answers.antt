@@ -1,9 +1,0 @@
--- `with_bytes` goes on with a checked sheet and a checked book.
-use Rattle.sheet.specs.Checked.{checked}
-use Rattle.book.specs.Checked.{checked_book}
-use Rattle.std.proofs.Common.{rules}
-use Rattle.std.proofs.Common.{sym, ◌∙◌}
-use Rattle.cli_console.proofs.open.with_bytes.Goals as goal
-
-pub with_room-requires : goal.with_room-requires
-with_room-requires g c = ((checked _ ((sym c.sheet_ok.ensures ∙ c.if-not-sheet_ok.false)), checked_book _ ((sym c.book_ok.ensures ∙ c.if-not-book_ok.false))), search rules)

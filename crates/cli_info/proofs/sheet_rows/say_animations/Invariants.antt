@@ -1,9 +1,0 @@
--- `say_animations` goes once over its rows and ends.
-use Prim.Native.Nat.{◌-◌, ◌≤◌}
-use Rattle.cli_info.proofs.sheet_rows.say_animations.Given as goal
-
-abbrev pub invariant-loop-i : goal.invariant-loop-i
-invariant-loop-i l = l.i ≤ l.n
-
-abbrev pub decreases-loop-i : goal.decreases-loop-i
-decreases-loop-i l = l.n - l.i

@@ -1,2 +1,0 @@
--- What is known of an input between two bytes.
-pub mod Held

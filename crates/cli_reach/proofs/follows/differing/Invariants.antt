@@ -1,9 +1,0 @@
--- `differing` compares each of the 32 rows once and ends.
-use Rattle.std.proofs.Common.{◌-◌, ◌≤◌}
-use Rattle.cli_reach.proofs.follows.differing.Given as goal
-
-abbrev pub invariant-loop-k : goal.invariant-loop-k
-invariant-loop-k l = l.k ≤ 32
-
-abbrev pub decreases-loop-k : goal.decreases-loop-k
-decreases-loop-k l = 32 - l.k

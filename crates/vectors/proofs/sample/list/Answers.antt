@@ -1,6 +1,0 @@
--- `list` stays inside its slices. The first n of them.
-use Rattle.std.proofs.Common.{arith, length-take}
-use Rattle.vectors.proofs.sample.list.Goals as goal
-
-pub slice_bounds-result-end : goal.slice_bounds-result-end
-slice_bounds-result-end c = simp length-take (omega arith)
