@@ -51,7 +51,16 @@ const OURS: &str = include_str!("../../../crates/channel/src/corner_colours.rt")
 fn the_cases_are_those_of_targets_rs() {
     let theirs = listed(TARGETS, "pub enum VertexColorTarget {\n", '}');
     assert_eq!((theirs.len(), theirs[16]), (17, "PaneAlpha"));
-    assert_eq!(listed(OURS, "pub enum CornerColour {\n", '}'), theirs[..16]);
+    let ours: Vec<String> = listed(OURS, "pub enum CornerColour {\n", '}')
+        .iter()
+        .map(|case| case.to_string())
+        .collect();
+    // Each case stands beside its channel's number, which goes up by one from the first.
+    let numbered: Vec<String> = (12..)
+        .zip(&theirs[..16])
+        .map(|(channel, name)| format!("{name} = {channel}"))
+        .collect();
+    assert_eq!(ours, numbered);
     let table = listed(
         OURS,
         "const CORNER_COLOURS: [CornerColour; PANE_ALPHA] = [\n",
