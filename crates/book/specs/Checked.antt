@@ -1,8 +1,9 @@
 -- What a checked book tells: a record whose fields `omega` reads, and laws on its rows. Assumes nothing.
-use Rattle.std.specs.Prelude.{ℕ, ◌+◌, ◌*◌, ◌<◌, ◌≤◌, List, Bool, ◌||◌, ◌≡◌, length, leb, ltb, eqb}
+use Rattle.std.specs.Prelude.{ℕ, ◌+◌, ◌*◌, ◌<◌, ◌≤◌, List, Bool, ◌||◌, ◌≡◌, length, leb, ltb, eqb, cond, IfSome}
+use Rattle.std.specs.Prelude.{Some, None}
 use Rattle.std.proofs.Math.Bool.{true, false}
-use Rattle.std.proofs.Common.{arith}
-use borrow.Author.Tests.{leb-true, ltb-true, eqb-true, ne_eqb}
+use Rattle.std.proofs.Common.{refl, arith}
+use borrow.Author.Tests.{leb-true, ltb-true, eqb-true, eqb-false, ne_eqb}
 use Rattle.laws.specs.Tests.{both, and_2}
 use Rattle.laws.specs.Below.{all_below, all_at}
 use Rattle.field.specs.Read.{byte_at, u16_at, finite_row, FiniteFrom, finite_from}
@@ -10,7 +11,7 @@ use Rattle.field.specs.Name.{name_bytes, empty_name, names_ok, Fields}
 use Rattle.field.specs.Same.{field_same}
 use Rattle.field.specs.Table.{distinct, not_empty}
 use Rattle.book.specs.Sizes.{pane_count, material_count, head_bytes, pane_bytes, material_bytes, panes_at, materials_at, no_parent}
-use Rattle.book.specs.Rows.{pane_row, pane_label, material_name}
+use Rattle.book.specs.Rows.{pane_row, parent_of, pane_label, material_name}
 use Rattle.book.specs.Book.{sizes_ok, pane_ok, material_ok, book_ok}
 
 -- the sizes are in their ranges, and the length is theirs
@@ -85,6 +86,15 @@ module _ {b : List ℕ} (w : CheckedBook b) where
     where
       other : {x y : Bool} → x ≡ false → (x || y) ≡ true → y ≡ true
       other p q = rw p at q
+
+  -- so the row above it, where there is one, is a smaller row
+  pub pane_above : (i : ℕ) → i < pane_count b → IfSome (parent_of (pane_row b i).parent) (λ p. p < i)
+  unfolding parent_of
+  pane_above i l = go (eqb (pane_row b i).parent no_parent) refl
+    where
+      go : (x : Bool) → eqb (pane_row b i).parent no_parent ≡ x → IfSome (cond x None (Some (pane_row b i).parent)) (λ p. p < i)
+      go true _ = _
+      go false e = pane_parent_lem i l (eqb-false (pane_row b i).parent no_parent e)
 
   -- its origins are one of the three
   pub pane_horizontal : (i : ℕ) → i < pane_count b → (pane_row b i).horizontal ≤ 2

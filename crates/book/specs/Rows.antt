@@ -1,8 +1,9 @@
 -- The rows of a book as records, and the names in them (document 01, "Sheet and book"). Definitions only.
-use Rattle.std.specs.Prelude.{ℕ, ◌+◌, ◌*◌, ◌%◌, ◌/◌, List, eqb}
+use Rattle.std.specs.Prelude.{ℕ, ◌+◌, ◌*◌, ◌%◌, ◌/◌, List, Option, cond, eqb}
+use Rattle.std.specs.Prelude.{Some, None}
 use Rattle.field.specs.Read.{byte_at, u16_at, float_at}
 use Rattle.field.specs.Name.{name_bytes, name_at}
-use Rattle.book.specs.Sizes.{pane_bytes, material_bytes, panes_at, materials_at}
+use Rattle.book.specs.Sizes.{pane_bytes, material_bytes, panes_at, materials_at, no_parent}
 use Rattle.float.specs.declared.vector.Vector2.{Vector2}
 use Rattle.float.specs.declared.vector.Vector3.{Vector3}
 use Rattle.book.specs.declared.rows.Pane.{Pane}
@@ -31,6 +32,10 @@ pane_at b at =
       scale = vector2_at b (at + 56);
       size = vector2_at b (at + 64);
     }
+
+-- the row that a parent's number names
+unfoldable pub parent_of : ℕ → Option ℕ
+parent_of p = cond (eqb p no_parent) None (Some p)
 
 -- an SRT: translate u, v, rotate, scale u, v
 abbrev pub srt_at : List ℕ → ℕ → Srt

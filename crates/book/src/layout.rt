@@ -1,4 +1,5 @@
 // Whether a slice of bytes is a book: row 2 of the table of refusals.
+// Stays by numbers: a length is held against a size, and a parent against the format's own number of none.
 // A row's check has no early way out, so that its fields are read side by side; the walks over rows have one.
 ghost use Rattle.std.specs.Prelude.{◌≡◌, true, ◌+◌, ◌*◌, ◌<◌, ◌≤◌, length};
 ghost use Rattle.laws.specs.Below.{all_below};

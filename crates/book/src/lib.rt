@@ -7,7 +7,6 @@ mod view;
 
 pub use layout::book_ok;
 pub use rows::{
-    HEAD, MATERIAL_BYTES, NO_PARENT, PANE_BYTES, Pane, material_count, material_name, material_srt,
-    material_texture, materials_at, pane_count, pane_label, pane_row,
+    HEAD, MATERIAL_BYTES, NO_PARENT, PANE_BYTES, Pane, material_count, materials_at, pane_count,
 };
 pub use view::Book;

@@ -1,19 +1,10 @@
 -- What a pass over the targets holds of the last content that it met. Assumes nothing.
 use Rattle.std.specs.Prelude.{ℕ, List, ◌≡◌, refl, None}
 use Rattle.std.proofs.Common.{arith, le-ltb}
-use Rattle.field.specs.Index.{Indexed}
 use Rattle.sheet.specs.Sizes.{content_count}
 use Rattle.sheet.specs.Checked.{Checked}
-use Rattle.book.specs.Sizes.{pane_count, material_count, pane_bytes, material_bytes, panes_at, materials_at}
-use Rattle.book.specs.Checked.{CheckedBook}
 use Rattle.channel.specs.Channel.{active_reach}
 use Rattle.channel.specs.declared.reach.Held.{Held}
-
--- a checked book, with indexes of its pane names and of its material names
-pub record Searched (b panes materials : List ℕ) : Type 0 where
-  pub book : CheckedBook b
-  pub labels : Indexed b panes_at pane_bytes (pane_count b) panes
-  pub names : Indexed b (materials_at b) material_bytes (material_count b) materials
 
 -- no content
 abbrev pub none_held : Held

@@ -1,7 +1,6 @@
 // Which channel a target addresses, by its family, its raw number and its layer.
 ghost use Rattle.std.specs.Prelude.{◌≡◌, ◌<◌, IfSome};
 ghost use Rattle.book.specs.Sizes.{material_count};
-ghost use Rattle.book.specs.Checked.{CheckedBook};
 ghost use Rattle.channel.specs.Channel.{family_of, listed, pane_channel, colour_place, material_channel, slot_channel, pane_channels, material_channels, channel_count, of_pane, of_material, row_channel};
 ghost use Rattle.channel.specs.Within.{ReachedIn};
 
@@ -76,7 +75,7 @@ fn listed(n: usize, raw: usize) -> usize
     if raw < n { raw } else { 0 }
 }
 
-// A pane's channel.
+// A pane's channel. Stays a comparison with PANE_ALPHA: the raw number is the format's, and only this one is no corner's.
 #[tactic(auto, using(crate::proofs::Corners::corner_by_number), unfolding(crate::specs::Channel::pane_channel))]
 pub fn pane_channel(f: Family, raw: usize) -> Option<usize>
     ensures { result ≡ pane_channel f raw }
@@ -134,17 +133,17 @@ pub fn slot_channel(slot: u16) -> u16
 
 // How many channels a book has.
 #[tactic(auto, unfolding(crate::specs::Channel::channel_count))]
-pub fn channel_count(b: &[u8]) -> usize
-    requires { CheckedBook b.now }
-    ensures { result ≡ channel_count b.now }
+pub fn channel_count(book: &Book<'_>) -> usize
+    ensures { result ≡ channel_count book.now.bytes.now }
 {
-    book::pane_count(b) * PANE_CHANNELS + book::material_count(b) * MATERIAL_CHANNELS
+    book.pane_count() * PANE_CHANNELS + book.material_count() * MATERIAL_CHANNELS
 }
 
 // Channel c of pane p.
 #[tactic(auto, unfolding(crate::specs::Channel::of_pane))]
 pub fn of_pane(p: usize, c: usize) -> usize
-    requires { (p < 65536) × (c < pane_channels) }
+    requires pane { p < 65536 }
+    requires channel { c < pane_channels }
     ensures { result ≡ of_pane p c }
 {
     p * PANE_CHANNELS + c
@@ -152,11 +151,12 @@ pub fn of_pane(p: usize, c: usize) -> usize
 
 // Channel c of material m.
 #[tactic(auto, unfolding(crate::specs::Channel::of_material))]
-pub fn of_material(b: &[u8], m: usize, c: usize) -> usize
-    requires { CheckedBook b.now × ((m < material_count b.now) × (c < material_channels)) }
-    ensures { result ≡ of_material b.now m c }
+pub fn of_material(book: &Book<'_>, m: usize, c: usize) -> usize
+    requires material { m < material_count book.now.bytes.now }
+    requires channel { c < material_channels }
+    ensures { result ≡ of_material book.now.bytes.now m c }
 {
-    book::pane_count(b) * PANE_CHANNELS + m * MATERIAL_CHANNELS + c
+    book.pane_count() * PANE_CHANNELS + m * MATERIAL_CHANNELS + c
 }
 
 // The channel of a pane that a target's row addresses.
@@ -181,6 +181,6 @@ pub fn row_channel(book: &Book<'_>, reached: Option<Reached>, row: Target) -> Op
 {
     match reached? {
         Reached::Pane(p) => Some(of_pane(p, pane_row_channel(row)?)),
-        Reached::Material(m) => Some(of_material(book.bytes, m, material_row_channel(row)?)),
+        Reached::Material(m) => Some(of_material(book, m, material_row_channel(row)?)),
     }
 }

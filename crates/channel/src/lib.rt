@@ -12,7 +12,7 @@ pub use address::{
     slot_channel,
 };
 pub use place::{Place, hits, place_of};
-pub use reach::{Held, Names};
+pub use reach::{Held, Names, labels, material_names};
 
 // A target's family, by its four-letter code.
 #[derive(Clone, Copy, Debug, PartialEq, Eq)]

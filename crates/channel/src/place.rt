@@ -1,7 +1,6 @@
 // Whether a target addresses one given channel: the channel's row of the book is known, so its name is compared and none is searched for.
 ghost use Rattle.std.specs.Prelude.{◌≡◌, ◌<◌};
 ghost use Rattle.sheet.specs.Sizes.{content_count};
-ghost use Rattle.book.specs.Checked.{CheckedBook};
 ghost use Rattle.channel.specs.Channel.{active_reach};
 ghost use Rattle.channel.specs.Within.{ReachedIn};
 ghost use Rattle.channel.specs.Place.{place_of, is_row, hits, PlacedIn};
@@ -12,6 +11,7 @@ use book::{Book, MATERIAL_BYTES, PANE_BYTES};
 use sheet::{CONTENT_BYTES, ROW_NAME, Sheet, Target};
 
 // Where a channel stands: a pane's or a material's row, and its number there.
+// Stays beside Reached: what the number means goes by the row's kind, so that a match takes the two at once.
 #[derive(Clone, Copy, Debug, PartialEq, Eq)]
 pub enum Place {
     Pane(usize, usize),
@@ -19,11 +19,10 @@ pub enum Place {
 }
 
 #[tactic(auto, unfolding(crate::specs::Place::place_of))]
-pub fn place_of(b: &[u8], c: usize) -> Place
-    requires { CheckedBook b.now }
-    ensures { result ≡ place_of b.now c }
+pub fn place_of(book: &Book<'_>, c: usize) -> Place
+    ensures { result ≡ place_of book.now.bytes.now c }
 {
-    let panes = book::pane_count(b) * PANE_CHANNELS;
+    let panes = book.pane_count() * PANE_CHANNELS;
     if c < panes {
         return Place::Pane(c / PANE_CHANNELS, c % PANE_CHANNELS);
     }
@@ -40,12 +39,9 @@ fn reaches(sheet: &Sheet<'_>, book: &Book<'_>, a: usize, c: usize, row: Reached)
 {
     let content = sheet.content(c);
     let (named, at) = match row {
-        Reached::Pane(p) => (
-            (content.kind == 0) | (content.kind == 3),
-            book::HEAD + p * PANE_BYTES,
-        ),
+        Reached::Pane(p) => (content.reaches_pane(), book::HEAD + p * PANE_BYTES),
         Reached::Material(m) => (
-            content.kind == 1,
+            content.reaches_material(),
             book::materials_at(book.bytes) + m * MATERIAL_BYTES,
         ),
     };

@@ -1,12 +1,12 @@
 // The row of the book that a content reaches, by its name.
-ghost use Rattle.std.specs.Prelude.{◌≡◌, ◌<◌};
+ghost use Rattle.std.specs.Prelude.{◌≡◌, ◌+◌, ◌<◌, ◌≤◌, true, length, IfSome};
+ghost use Rattle.std.specs.Option.{ForSome};
+ghost use Rattle.field.specs.Name.{name_bytes, names_ok, find_name};
 ghost use Rattle.book.specs.Sizes.{pane_count, material_count, pane_bytes, material_bytes, panes_at, materials_at};
 ghost use Rattle.field.specs.Index.{Indexed};
-ghost use Rattle.channel.specs.Held.{Searched};
 
 use crate::Reached;
 use book::{Book, MATERIAL_BYTES, PANE_BYTES};
-use field::BUCKETS;
 use sheet::{CONTENT_BYTES, ROW_NAME, Sheet};
 
 // A content, and the row that it reaches while an animation is active.
@@ -16,20 +16,23 @@ pub struct Held {
     pub reached: Option<Reached>,
 }
 
-// A book, with an index of the names of its panes and one of those of its materials.
+// A book, with an index of the names of its panes and one of those of its materials, where there is one: it pays where many names are searched for.
 #[derive(Clone, Copy)]
-pub struct Names<'a> {
-    pub book: Book<'a>,
-    panes: [u8; BUCKETS],
-    materials: [u8; BUCKETS],
-    ghost searched: { Searched book.bytes.now panes materials },
+pub struct Names<'b, 'i> {
+    pub book: Book<'b>,
+    pub panes: Option<&'i [u8]>,
+    pub materials: Option<&'i [u8]>,
+    pub ghost labels: { ForSome panes (λ i. Indexed book.bytes.now panes_at pane_bytes (pane_count book.bytes.now) i.now) },
+    pub ghost names: { ForSome materials (λ i. Indexed book.bytes.now (materials_at book.bytes.now) material_bytes (material_count book.bytes.now) i.now) },
 }
 
-fn labels<'a>(book: &Book<'a>) -> field::Names<'a>
+// The names of a book's panes.
+pub fn labels<'a>(book: &Book<'a>) -> field::Names<'a>
     ensures table { result.table.now ≡ book.now.bytes.now }
     ensures base { result.base ≡ panes_at }
     ensures stride { result.stride ≡ pane_bytes }
     ensures rows { result.rows ≡ pane_count book.now.bytes.now }
+    ensures few { result.rows < 255 }
 {
     field::Names {
         table: book.bytes,
@@ -39,11 +42,13 @@ fn labels<'a>(book: &Book<'a>) -> field::Names<'a>
     }
 }
 
-fn material_names<'a>(book: &Book<'a>) -> field::Names<'a>
+// Those of its materials.
+pub fn material_names<'a>(book: &Book<'a>) -> field::Names<'a>
     ensures table { result.table.now ≡ book.now.bytes.now }
     ensures base { result.base ≡ materials_at book.now.bytes.now }
     ensures stride { result.stride ≡ material_bytes }
     ensures rows { result.rows ≡ material_count book.now.bytes.now }
+    ensures few { result.rows < 255 }
 {
     field::Names {
         table: book.bytes,
@@ -53,34 +58,25 @@ fn material_names<'a>(book: &Book<'a>) -> field::Names<'a>
     }
 }
 
-// An index of a table's names, or a blank one: it pays where many names are searched for.
-fn index(names: &field::Names<'_>, many: bool) -> [u8; BUCKETS]
-    requires { names.now.rows < 255 }
-    ensures { Indexed names.now.table.now names.now.base names.now.stride names.now.rows result }
+// The row with the name at `at` of a sheet: by the index where there is one, else by the rows. Stays a search: there is no heap for a map.
+fn find(names: &field::Names<'_>, index: Option<&[u8]>, sheet: &[u8], at: usize) -> Option<usize>
+    requires distinct { names_ok names.now.table.now names.now.base names.now.stride names.now.rows ≡ true }
+    requires index { IfSome index (λ i. Indexed names.now.table.now names.now.base names.now.stride names.now.rows i.now) }
+    requires within { at + name_bytes ≤ length sheet.now }
+    ensures { result ≡ find_name names.now.table.now names.now.base names.now.stride names.now.rows sheet.now at }
 {
-    if many {
-        names.index()
-    } else {
-        field::blank_index()
+    match index {
+        Some(index) => names.find_indexed(index, sheet, at),
+        None => names.find(sheet, at),
     }
 }
 
-impl<'a> Names<'a> {
+// Stays a content's number with its bound: a value of sheet and number would be made anew for each content.
+impl<'b, 'i> Names<'b, 'i> {
     ghost use Rattle.std.specs.Prelude.{◌≡◌, ◌<◌, IfSome};
     ghost use Rattle.sheet.specs.Sizes.{content_count};
     ghost use Rattle.channel.specs.Channel.{content_reach, active_reach};
     ghost use Rattle.channel.specs.Held.{held_for, Holds};
-
-    // `many_panes` and `many_materials` say whether many of each are searched for.
-    pub fn new(book: Book<'a>, many_panes: bool, many_materials: bool) -> Names<'a>
-        ensures { result.book.bytes.now ≡ book.entry.bytes.now }
-    {
-        Names {
-            book,
-            panes: index(&labels(&book), many_panes),
-            materials: index(&material_names(&book), many_materials),
-        }
-    }
 
     #[tactic(auto, using(book::specs::Checked::label_fields, book::specs::Checked::name_fields), unfolding(crate::specs::Channel::content_reach, crate::specs::Channel::pane_named, crate::specs::Channel::material_named))]
     fn content_reach(&self, sheet: &Sheet<'_>, c: usize) -> Option<Reached>
@@ -88,14 +84,14 @@ impl<'a> Names<'a> {
         ensures { result ≡ content_reach sheet.now.bytes.now self.now.book.bytes.now c }
     {
         let name = sheet::contents_at(sheet.bytes) + c * CONTENT_BYTES + ROW_NAME;
-        match sheet.content(c).kind {
-            0 | 3 => labels(&self.book)
-                .find_indexed(&self.panes, sheet.bytes, name)
-                .map(|p| Reached::Pane(p)),
-            1 => material_names(&self.book)
-                .find_indexed(&self.materials, sheet.bytes, name)
-                .map(|m| Reached::Material(m)),
-            _ => None,
+        let content = sheet.content(c);
+        if content.reaches_pane() {
+            find(&labels(&self.book), self.panes, sheet.bytes, name).map(|p| Reached::Pane(p))
+        } else if content.reaches_material() {
+            let names = material_names(&self.book);
+            find(&names, self.materials, sheet.bytes, name).map(|m| Reached::Material(m))
+        } else {
+            None
         }
     }
 

@@ -6,7 +6,7 @@ mod reached;
 
 use cli_page::Out;
 use cli_printed::{MATERIAL_CHANNELS, Owner, PANE_CHANNELS, name_channel};
-use reached::{BOOK_BYTES, SHEET_BYTES};
+use reached::Tried;
 use std::fs::File;
 use std::io;
 use std::io::Read;
@@ -19,13 +19,12 @@ fn read(rt: HostRuntime, path: &str, buf: &mut [u8]) -> io::Result<()> {
 
 // The raw numbers, one a line.
 fn raw_numbers(out: &mut Out) -> io::Result<()> {
-    let mut sheet = [0u8; SHEET_BYTES];
-    let mut book = [0u8; BOOK_BYTES];
-    read(out.rt, "one.sheet", &mut sheet)?;
-    read(out.rt, "one.book", &mut book)?;
+    let mut tried = Tried::new();
+    read(out.rt, "one.sheet", &mut tried.sheet)?;
+    read(out.rt, "one.book", &mut tried.book)?;
     for raw in 0..=u8::MAX {
         out.count("FLVC ", "raw", raw as u64);
-        match reached::reached(&mut sheet, &book, raw) {
+        match tried.reached(raw) {
             Some(c) => name_channel(out, Owner::Pane, c),
             None => out.say(" no channel, or not the same for every content and curve"),
         }
@@ -44,7 +43,7 @@ fn names(out: &mut Out, row: &str, owner: Owner, channels: usize) {
 }
 
 fn main(rt: HostRuntime) -> io::Result<()> {
-    let mut out = Out::new(rt, false, false, false);
+    let mut out = Out::new(rt);
     raw_numbers(&mut out)?;
     names(&mut out, "pane ", Owner::Pane, PANE_CHANNELS);
     names(&mut out, "material ", Owner::Material, MATERIAL_CHANNELS);

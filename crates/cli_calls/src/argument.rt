@@ -1,99 +1,97 @@
-// The arguments of a call.
-ghost use Rattle.std.specs.Prelude.{◌≤◌};
+// The arguments of a call, each a word of its line.
+ghost use Rattle.std.specs.Prelude.{◌≡◌, ◌<◌, ◌≤◌, ◌+◌};
 
-use crate::named::Names;
+use crate::named::row_named;
 use crate::unread::{Fault, Unread};
-use crate::verb::{Form, Verb};
+use book::Book;
 use cli_printed::Owner;
-use cli_words::{is_quoted, unquoted, word};
+use cli_words::{Words, is_quoted, unquoted};
 
-// The whole number that selects no animation.
-const NONE: u16 = 65535;
+// A whole number that fits the menu's.
+pub fn whole(w: &[u8]) -> Result<u16, Fault> {
+    cli_words::whole(w)
+        .and_then(|n| u16::try_from(n).ok())
+        .ok_or(Fault::NoWhole)
+}
 
-fn plain_whole(w: &[u8]) -> Result<u16, Fault> {
-    match cli_words::whole(w) {
-        Some(n) if n < 65536 => Ok(n as u16),
-        _ => Err(Fault::NoWhole),
+pub fn number(w: &[u8]) -> Result<f32, Fault> {
+    cli_words::read_number(w).ok_or(Fault::NoNumber)
+}
+
+// An animation's number, or none.
+pub fn animation(w: &[u8]) -> Result<Option<u16>, Fault> {
+    match w {
+        b"none" => Ok(None),
+        _ => whole(w).map(|n| Some(n)),
     }
 }
 
 // A pane's number, or its label; a material's number, or its name; in quotes always a name.
-fn row_word(owner: Owner, names: Names<'_>, w: &[u8]) -> Result<u16, Fault> {
+pub fn row(book: Book<'_>, owner: Owner, w: &[u8]) -> Result<u16, Fault> {
     if !is_quoted(w) {
-        if let Ok(n) = plain_whole(w) {
+        if let Ok(n) = whole(w) {
             return Ok(n);
         }
     }
-    names.row(owner, unquoted(w)).ok_or(Fault::NoName)
+    row_named(book, owner, unquoted(w)).ok_or(Fault::NoName)
 }
 
 // A channel's name, or its number.
-fn channel_word(owner: Owner, w: &[u8]) -> Result<u16, Fault> {
-    let number = match cli_printed::channel(owner, w) {
-        Some(c) => u16::try_from(c).ok(),
-        None => plain_whole(w).ok(),
-    };
-    number.ok_or(Fault::NoName)
-}
-
-// An animation's number, or none.
-fn animation_word(w: &[u8]) -> Result<u16, Fault> {
-    if w == b"none".as_slice() {
-        Ok(NONE)
-    } else {
-        plain_whole(w)
+pub fn channel(owner: Owner, w: &[u8]) -> Result<u16, Fault> {
+    match cli_printed::channel(owner, w) {
+        Some(c) => Ok(c as u16),
+        None => whole(w).map_err(|_| Fault::NoName),
     }
 }
 
-// The first whole number of a call.
-fn first_whole(names: Names<'_>, verb: Verb, w: &[u8]) -> Result<u16, Fault> {
-    match verb {
-        Verb::Play | Verb::Pose => animation_word(w),
-        Verb::ReadPane | Verb::ResolvePane => row_word(Owner::Pane, names, w),
-        Verb::ReadMaterial | Verb::ResolveSrt | Verb::Name => row_word(Owner::Material, names, w),
-        _ => plain_whole(w),
-    }
+// The words of a line that are not read yet; `at` is the place of the first of them. No call has more than five words.
+#[derive(Drop)]
+pub struct Arguments<'a> {
+    words: Words<'a>,
+    pub at: usize,
+    ghost few: { at ≤ 5 },
 }
 
-// The second.
-fn second_whole(verb: Verb, w: &[u8]) -> Result<u16, Fault> {
-    match verb {
-        Verb::ReadPane => channel_word(Owner::Pane, w),
-        Verb::ReadMaterial => channel_word(Owner::Material, w),
-        _ => plain_whole(w),
-    }
-}
+impl<'a> Arguments<'a> {
+    ghost use Rattle.std.specs.Prelude.{◌≡◌, ◌<◌, ◌+◌, OnOk};
 
-// A word that has to be there.
-fn asked<'a>(line: &'a [u8], place: usize) -> Result<&'a [u8], Unread> {
-    word(line, place).ok_or(Fault::Missing.at(place))
-}
-
-// Whole number i of a call, 0 where it takes fewer.
-pub fn whole_word(line: &[u8], names: Names<'_>, form: Form, i: usize) -> Result<u16, Unread>
-    requires { i ≤ 2 }
-{
-    if i >= form.wholes {
-        return Ok(0);
+    pub fn new(line: &'a [u8]) -> Arguments<'a>
+        ensures { result.at ≡ 0 }
+    {
+        Arguments {
+            words: Words::new(line),
+            at: 0,
+        }
     }
-    let place = form.from + i;
-    let w = asked(line, place)?;
-    let n = if i == 0 {
-        first_whole(names, form.verb, w)
-    } else {
-        second_whole(form.verb, w)
-    };
-    n.map_err(|fault| fault.at(place))
-}
 
-// Number i of a call, 0 where it takes fewer.
-pub fn number_word(line: &[u8], form: Form, i: usize) -> Result<f32, Unread>
-    requires { i ≤ 2 }
-{
-    if i >= form.numbers {
-        return Ok(0.0);
+    // The next word, if there is one.
+    pub fn word(&mut self) -> Option<&'a [u8]>
+        requires { self.old.at < 5 }
+        ensures { self.new.at ≡ self.old.at + 1 }
+    {
+        self.at += 1;
+        self.words.next()
     }
-    let place = form.from + form.wholes + i;
-    let w = asked(line, place)?;
-    cli_words::read_number(w).ok_or(Fault::NoNumber.at(place))
+
+    // The next word, which has to be there, as it is read.
+    pub fn next<T: Drop, F: FnOnce(&[u8]) -> Result<T, Fault>>(
+        &mut self,
+        read: F,
+    ) -> Result<T, Unread>
+        requires callable { F.IsAlwaysCallable read }
+        requires few { self.old.at < 5 }
+        ensures { self.new.at ≡ self.old.at + 1 }
+    {
+        let at = self.at;
+        let word = self.word().ok_or(Fault::Missing.at(at))?;
+        read(word).map_err(|fault| fault.at(at))
+    }
+
+    // No word may follow.
+    pub fn end(&mut self) -> Result<(), Unread> {
+        match self.words.next() {
+            Some(_) => Err(Fault::TooMany.at(self.at)),
+            None => Ok(()),
+        }
+    }
 }

@@ -1,109 +1,136 @@
-// The verbs: what a line begins with, and how many arguments follow.
-ghost use Rattle.std.specs.Prelude.{◌≤◌};
+// The verbs: what a line begins with, and the arguments that each takes.
+// Stays a fact of each function, that the verb is read and nothing behind it: a type for it would be made and left again within one line.
+ghost use Rattle.std.specs.Prelude.{◌≡◌, IfOk, IfNone};
 
-use cli_words::word;
+use crate::argument::{Arguments, animation, channel, number, row, whole};
+use crate::call::{Action, Call, Query};
+use crate::unread::{Fault, Unread};
+use book::Book;
+use cli_printed::Owner;
+use cli_words::unquoted;
 
-// What a call does.
-#[derive(Clone, Copy, Debug, PartialEq, Eq)]
-pub enum Verb {
-    Play,
-    Pose,
-    Tick,
-    Key,
-    Slope,
-    Undo,
-    Redo,
-    ReadPane,
-    ReadMaterial,
-    ReadAll,
-    ResolvePane,
-    ResolveSrt,
-    Name,
-    Next,
-    Cascade,
-    Keys,
-    Player,
-    Save,
-    Open,
-    Drag,
-    Drop,
-    Abandon,
-}
+const UNKNOWN: Unread = Unread {
+    word: 0,
+    fault: Fault::Unknown,
+};
 
-// The form of a verb's call: the arguments begin at word `from`, so many whole numbers, then so many numbers.
-#[derive(Clone, Copy)]
-pub struct Form {
-    pub verb: Verb,
-    pub from: usize,
-    pub wholes: usize,
-    pub numbers: usize,
-    ghost few_words: { from ≤ 2 },
-    ghost few_wholes: { wholes ≤ 2 },
-    ghost few_numbers: { numbers ≤ 2 },
-}
-
-fn one(verb: Verb, wholes: usize, numbers: usize) -> Form
-    requires { (wholes ≤ 2) × (numbers ≤ 2) }
+// One channel: `pane P CHANNEL` or `material M CHANNEL`.
+fn read_one(args: &mut Arguments<'_>, book: Book<'_>, owner: Owner) -> Result<Query, Unread>
+    requires { args.old.at ≡ 2 }
 {
-    Form {
-        verb,
-        from: 1,
-        wholes,
-        numbers,
-    }
+    let row = args.next(|w| row(book, owner, w))?;
+    let channel = args.next(|w| channel(owner, w))?;
+    Ok(Query::Read {
+        owner,
+        row,
+        channel,
+    })
 }
 
-// A verb of two words. The second of `save` is a file's name, and may be missing.
-fn two(verb: Verb, wholes: usize) -> Form
-    requires { wholes ≤ 2 }
+fn read(args: &mut Arguments<'_>, book: Book<'_>) -> Result<Query, Unread>
+    requires { args.old.at ≡ 1 }
 {
-    Form {
-        verb,
-        from: 2,
-        wholes,
-        numbers: 0,
+    match args.word() {
+        Some(b"pane") => read_one(args, book, Owner::Pane),
+        Some(b"material") => read_one(args, book, Owner::Material),
+        Some(b"all") => Ok(Query::ReadAll),
+        _ => Err(UNKNOWN),
     }
 }
 
-fn read_form(what: &[u8]) -> Option<Form> {
-    match what {
-        b"pane" => Some(two(Verb::ReadPane, 2)),
-        b"material" => Some(two(Verb::ReadMaterial, 2)),
-        b"all" => Some(two(Verb::ReadAll, 0)),
-        _ => None,
+fn resolve(args: &mut Arguments<'_>, book: Book<'_>) -> Result<Query, Unread>
+    requires { args.old.at ≡ 1 }
+{
+    match args.word() {
+        Some(b"pane") => Ok(Query::ResolvePane {
+            pane: args.next(|w| row(book, Owner::Pane, w))?,
+        }),
+        Some(b"srt") => Ok(Query::ResolveSrt {
+            material: args.next(|w| row(book, Owner::Material, w))?,
+            layer: args.next(whole)?,
+        }),
+        _ => Err(UNKNOWN),
     }
 }
 
-fn resolve_form(what: &[u8]) -> Option<Form> {
-    match what {
-        b"pane" => Some(two(Verb::ResolvePane, 1)),
-        b"srt" => Some(two(Verb::ResolveSrt, 2)),
-        _ => None,
+// What a verb does to the player, where it does something.
+fn action(args: &mut Arguments<'_>, verb: &[u8]) -> Result<Option<Action>, Unread>
+    requires { args.old.at ≡ 1 }
+    ensures unread { IfOk result (λ action. IfNone action (args.new.at ≡ 1)) }
+{
+    let action = match verb {
+        b"play" => Action::Play {
+            animation: args.next(animation)?,
+        },
+        b"pose" => Action::Pose {
+            animation: args.next(animation)?,
+            frame: args.next(number)?,
+        },
+        b"tick" => Action::Tick {
+            seconds: args.next(number)?,
+            fps: args.next(number)?,
+        },
+        b"key" => Action::Key {
+            track: args.next(whole)?,
+            key: args.next(whole)?,
+            frame: args.next(number)?,
+            value: args.next(number)?,
+        },
+        b"slope" => Action::Slope {
+            track: args.next(whole)?,
+            key: args.next(whole)?,
+            slope: args.next(number)?,
+        },
+        b"undo" => Action::Undo,
+        b"redo" => Action::Redo,
+        b"open" => Action::Open {
+            track: args.next(whole)?,
+            key: args.next(whole)?,
+        },
+        b"drag" => Action::Drag {
+            frame: args.next(number)?,
+            value: args.next(number)?,
+        },
+        b"drop" => Action::Drop,
+        b"abandon" => Action::Abandon,
+        _ => return Ok(None),
+    };
+    Ok(Some(action))
+}
+
+// What a verb shows.
+fn query(args: &mut Arguments<'_>, book: Book<'_>, verb: &[u8]) -> Result<Query, Unread>
+    requires { args.old.at ≡ 1 }
+{
+    match verb {
+        b"read" => read(args, book),
+        b"resolve" => resolve(args, book),
+        b"name" => Ok(Query::Name {
+            material: args.next(|w| row(book, Owner::Material, w))?,
+            slot: args.next(whole)?,
+        }),
+        b"next" => Ok(Query::Next {
+            animation: args.next(whole)?,
+        }),
+        b"cascade" => Ok(Query::Cascade),
+        b"keys" => Ok(Query::Keys),
+        b"player" => Ok(Query::Player),
+        _ => Err(UNKNOWN),
     }
 }
 
-// The form of the call that a line is, by its first words.
-pub fn form_of(line: &[u8]) -> Option<Form> {
-    match word(line, 0)? {
-        b"play" => Some(one(Verb::Play, 1, 0)),
-        b"pose" => Some(one(Verb::Pose, 1, 1)),
-        b"tick" => Some(one(Verb::Tick, 0, 2)),
-        b"key" => Some(one(Verb::Key, 2, 2)),
-        b"slope" => Some(one(Verb::Slope, 2, 1)),
-        b"undo" => Some(one(Verb::Undo, 0, 0)),
-        b"redo" => Some(one(Verb::Redo, 0, 0)),
-        b"open" => Some(one(Verb::Open, 2, 0)),
-        b"drag" => Some(one(Verb::Drag, 0, 2)),
-        b"drop" => Some(one(Verb::Drop, 0, 0)),
-        b"abandon" => Some(one(Verb::Abandon, 0, 0)),
-        b"read" => read_form(word(line, 1)?),
-        b"resolve" => resolve_form(word(line, 1)?),
-        b"name" => Some(one(Verb::Name, 2, 0)),
-        b"next" => Some(one(Verb::Next, 1, 0)),
-        b"cascade" => Some(one(Verb::Cascade, 0, 0)),
-        b"keys" => Some(one(Verb::Keys, 0, 0)),
-        b"player" => Some(one(Verb::Player, 0, 0)),
-        b"save" => Some(two(Verb::Save, 0)),
-        _ => None,
+// The call whose verb was read.
+pub fn call<'a>(args: &mut Arguments<'a>, book: Book<'_>, verb: &[u8]) -> Result<Call<'a>, Unread>
+    requires { args.old.at ≡ 1 }
+{
+    match verb {
+        b"save" => {
+            let path = args.word().map(unquoted);
+            Ok(Call::Save(path.filter(|path| !path.is_empty())))
+        }
+        _ => match action(args, verb)? {
+            Some(action) => Ok(Call::Make(action)),
+            None => query(args, book, verb).map(|query| Call::Show(query)),
+        },
     }
 }

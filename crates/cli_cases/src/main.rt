@@ -9,19 +9,19 @@ use std::io;
 use std::io::Read;
 
 // The output of a case, which begins with its words.
-fn begin(rt: HostRuntime, line: &[u8]) -> Out {
-    let mut out = Out::new(rt, false, false, false);
+fn begin(rt: HostRuntime, line: &str) -> Out {
+    let mut out = Out::new(rt);
     out.say("== menu_cli");
-    for word in Pieces::new(line) {
+    for word in Pieces::new(line.as_bytes()) {
         out.say(" ");
         out.say_bytes(word);
     }
     out
 }
 
-fn run<R: Read>(from: &mut R, mut out: Out, line: &[u8]) {
+fn run<R: Read>(from: &mut R, mut out: Out, line: &str) {
     out.say("\n");
-    cli_console::run(from, &mut out, line);
+    cli_console::run(from, &mut out, line.as_bytes());
     let status = out.status as u64;
     out.json = false;
     out.count("status ", "status", status);
@@ -29,12 +29,18 @@ fn run<R: Read>(from: &mut R, mut out: Out, line: &[u8]) {
     out.flush();
 }
 
-fn case(rt: HostRuntime, line: &[u8]) {
+fn case(rt: HostRuntime, line: &str) {
     run(&mut io::empty(), begin(rt, line), line);
 }
 
+fn cases(rt: HostRuntime, lines: &[&str]) {
+    for line in lines {
+        case(rt, line);
+    }
+}
+
 // A case with a list of calls in the place of standard input, as a shell's `<` has it.
-fn list(rt: HostRuntime, line: &[u8], calls: &str) -> io::Result<()> {
+fn list(rt: HostRuntime, line: &str, calls: &str) -> io::Result<()> {
     let mut out = begin(rt, line);
     out.say(" < ");
     out.say(calls);
@@ -44,131 +50,139 @@ fn list(rt: HostRuntime, line: &[u8], calls: &str) -> io::Result<()> {
 }
 
 fn usage_cases(rt: HostRuntime) {
-    case(rt, b"");
-    case(rt, b"help");
-    case(rt, b"help\0refusals");
-    case(rt, b"check\0--help\0--json");
-    case(rt, b"--version");
-    case(rt, b"version\0--json");
-    case(rt, b"jump\0title.sheet");
-    case(rt, b"check\0--loud\0title.sheet");
-    case(rt, b"--quiet");
-    case(rt, b"check\0\0title.book\0");
+    let lines = [
+        "",
+        "help",
+        "help\0refusals",
+        "check\0--help\0--json",
+        "--version",
+        "version\0--json",
+        "jump\0title.sheet",
+        "check\0--loud\0title.sheet",
+        "--quiet",
+        "check\0\0title.book\0",
+    ];
+    cases(rt, &lines);
 }
 
 fn check_cases(rt: HostRuntime) {
-    case(rt, b"check");
-    case(rt, b"check\0title.sheet");
-    case(rt, b"check\0title.sheet\0title.book");
-    case(
-        rt,
-        b"check\0title.book\0title.sheet\0close.sheet\0title.book",
-    );
-    case(rt, b"check\0missing.sheet\0title.book");
-    case(rt, b"check\0empty\0long\0.");
-    case(rt, b"check\0cut.sheet\0damaged.sheet\0damaged.book");
-    case(rt, b"check\0falling.sheet");
-    case(
-        rt,
-        b"check\0--json\0falling.sheet\0damaged.book\0title.sheet\0missing.book\0title.book",
-    );
+    let lines = [
+        "check",
+        "check\0title.sheet",
+        "check\0title.sheet\0title.book",
+        "check\0title.book\0title.sheet\0close.sheet\0title.book",
+        "check\0missing.sheet\0title.book",
+        "check\0empty\0long\0.",
+        "check\0cut.sheet\0damaged.sheet\0damaged.book",
+        "check\0falling.sheet",
+        "check\0--json\0falling.sheet\0damaged.book\0title.sheet\0missing.book\0title.book",
+    ];
+    cases(rt, &lines);
 }
 
 fn info_cases(rt: HostRuntime) {
-    case(rt, b"info");
-    case(rt, b"info\0title.sheet\0title.book");
-    case(rt, b"info\0title.sheet\0--json");
-    case(rt, b"info\0falling.sheet");
-    case(rt, b"info\0title.sheet\0damaged.book");
-    case(rt, b"info\0title.sheet\0title.book\0more");
+    let lines = [
+        "info",
+        "info\0title.sheet\0title.book",
+        "info\0title.sheet\0--json",
+        "info\0falling.sheet",
+        "info\0title.sheet\0damaged.book",
+        "info\0title.sheet\0title.book\0more",
+    ];
+    cases(rt, &lines);
 }
 
 fn file_cases(rt: HostRuntime) {
-    case(rt, b"frames");
-    case(rt, b"frames\0title.sheet");
-    case(rt, b"frames\0title.book\0title.sheet\00");
-    case(rt, b"frames\0title.sheet\0title.sheet\00");
-    case(rt, b"frames\0title.sheet\0missing.book\00");
-    case(rt, b"frames\0falling.sheet\0title.book\00");
-    case(rt, b"frames\0title.sheet\0damaged.book\00");
+    let lines = [
+        "frames",
+        "frames\0title.sheet",
+        "frames\0title.book\0title.sheet\00",
+        "frames\0title.sheet\0title.sheet\00",
+        "frames\0title.sheet\0missing.book\00",
+        "frames\0falling.sheet\0title.book\00",
+        "frames\0title.sheet\0damaged.book\00",
+    ];
+    cases(rt, &lines);
 }
 
 fn number_cases(rt: HostRuntime) {
-    case(rt, b"frames\0title.sheet\0title.book");
-    case(rt, b"frames\0title.sheet\0title.book\03");
-    case(rt, b"frames\0title.sheet\0title.book\0x");
-    case(rt, b"frames\0title.sheet\0title.book\0-1");
-    case(rt, b"frames\0title.sheet\0title.book\00\05\03");
-    case(rt, b"frames\0title.sheet\0title.book\00\05");
-    case(rt, b"frames\0title.sheet\0title.book\00\0x\03");
-    case(
-        rt,
-        b"frames\0title.sheet\0title.book\00\016777216\016777217",
-    );
-    case(rt, b"frames\0title.sheet\0title.book\00\00\01\02");
+    let lines = [
+        "frames\0title.sheet\0title.book",
+        "frames\0title.sheet\0title.book\03",
+        "frames\0title.sheet\0title.book\0x",
+        "frames\0title.sheet\0title.book\0-1",
+        "frames\0title.sheet\0title.book\00\05\03",
+        "frames\0title.sheet\0title.book\00\05",
+        "frames\0title.sheet\0title.book\00\0x\03",
+        "frames\0title.sheet\0title.book\00\016777216\016777217",
+        "frames\0title.sheet\0title.book\00\00\01\02",
+    ];
+    cases(rt, &lines);
 }
 
 fn frame_cases(rt: HostRuntime) {
-    case(rt, b"frames\0title.sheet\0title.book\02\04\04");
-    case(
-        rt,
-        b"--quiet\0frames\0title.sheet\0--quiet\0title.book\01\040\040",
-    );
-    case(rt, b"frames\0title.sheet\0title.book\01\040\040\0--json");
-    case(rt, b"frames\0title.sheet\0title.book\01\070000\070000");
-    case(rt, b"replay\0title.book\0title.sheet");
-    case(rt, b"replay\0title.sheet\0title.book\00");
+    let lines = [
+        "frames\0title.sheet\0title.book\02\04\04",
+        "--quiet\0frames\0title.sheet\0--quiet\0title.book\01\040\040",
+        "frames\0title.sheet\0title.book\01\040\040\0--json",
+        "frames\0title.sheet\0title.book\01\070000\070000",
+        "replay\0title.book\0title.sheet",
+        "replay\0title.sheet\0title.book\00",
+    ];
+    cases(rt, &lines);
 }
 
 // An edited sheet is saved, checked, and loaded again. A program is run in a folder of its own, so that the file stays in no other.
 fn save_cases(rt: HostRuntime) -> io::Result<()> {
-    list(rt, b"replay\0title.sheet\0title.book", "edit.calls")?;
-    case(rt, b"check\0edited.sheet");
-    list(rt, b"replay\0edited.sheet\0title.book", "again.calls")
+    list(rt, "replay\0title.sheet\0title.book", "edit.calls")?;
+    case(rt, "check\0edited.sheet");
+    list(rt, "replay\0edited.sheet\0title.book", "again.calls")
 }
 
 // A key is dragged and the sheet saved meanwhile; loaded again, the key is dragged back and dropped. In the last sheet a key has no room.
 fn drag_cases(rt: HostRuntime) -> io::Result<()> {
-    list(rt, b"replay\0title.sheet\0title.book", "drag.calls")?;
-    case(rt, b"check\0dragged.sheet");
-    list(rt, b"replay\0dragged.sheet\0title.book", "drop.calls")?;
-    list(rt, b"replay\0close.sheet\0title.book", "close.calls")
+    list(rt, "replay\0title.sheet\0title.book", "drag.calls")?;
+    case(rt, "check\0dragged.sheet");
+    list(rt, "replay\0dragged.sheet\0title.book", "drop.calls")?;
+    list(rt, "replay\0close.sheet\0title.book", "close.calls")
 }
 
 // Names in the place of numbers, quotes, comments, control bytes, and what a call declines.
 fn name_cases(rt: HostRuntime) -> io::Result<()> {
-    list(rt, b"replay\0title.sheet\0title.book", "names.calls")?;
-    list(
-        rt,
-        b"replay\0title.sheet\0title.book\0--json",
-        "names.calls",
-    )
+    list(rt, "replay\0title.sheet\0title.book", "names.calls")?;
+    list(rt, "replay\0title.sheet\0title.book\0--json", "names.calls")
 }
 
 // What edits reach: none; one channel; a parent's alpha, with its children; tracks that address nothing or that a later one overrides; a name that differs;
 // files that are no two sheets and a book.
 fn reach_cases(rt: HostRuntime) {
-    case(rt, b"reach\0title.sheet\0title.sheet\0title.book");
-    case(rt, b"reach\0title.sheet\0one.sheet\0title.book");
-    case(rt, b"reach\0title.sheet\0alpha.sheet\0title.book");
-    case(rt, b"reach\0title.sheet\0alpha.sheet\0title.book\0--json");
-    case(rt, b"reach\0title.sheet\0nothing.sheet\0title.book");
-    case(rt, b"reach\0title.sheet\0named.sheet\0title.book");
-    case(rt, b"reach\0title.sheet\0box.sheet\0title.book");
-    case(rt, b"reach\0title.sheet\0falling.sheet\0title.book");
-    case(rt, b"reach\0title.sheet\0title.sheet\0damaged.book");
-    case(rt, b"reach\0title.sheet\0missing.sheet\0title.book");
-    case(rt, b"reach\0title.sheet\0one.sheet");
-    case(rt, b"reach\0title.sheet\0one.sheet\0title.book\0more");
+    let lines = [
+        "reach\0title.sheet\0title.sheet\0title.book",
+        "reach\0title.sheet\0one.sheet\0title.book",
+        "reach\0title.sheet\0alpha.sheet\0title.book",
+        "reach\0title.sheet\0alpha.sheet\0title.book\0--json",
+        "reach\0title.sheet\0nothing.sheet\0title.book",
+        "reach\0title.sheet\0named.sheet\0title.book",
+        "reach\0title.sheet\0box.sheet\0title.book",
+        "reach\0title.sheet\0falling.sheet\0title.book",
+        "reach\0title.sheet\0title.sheet\0damaged.book",
+        "reach\0title.sheet\0missing.sheet\0title.book",
+        "reach\0title.sheet\0one.sheet",
+        "reach\0title.sheet\0one.sheet\0title.book\0more",
+    ];
+    cases(rt, &lines);
 }
 
 // Readings of every kind, in text and as objects; and a curve that is no number between its keys.
 fn reading_cases(rt: HostRuntime) -> io::Result<()> {
-    list(rt, b"replay\0title.sheet\0title.book", "many.calls")?;
-    case(rt, b"reach\0title.sheet\0many.sheet\0title.book");
-    case(rt, b"reach\0many.sheet\0title.sheet\0title.book\0--json");
-    list(rt, b"replay\0title.sheet\0title.book", "huge.calls")?;
-    case(rt, b"reach\0title.sheet\0huge.sheet\0title.book");
+    list(rt, "replay\0title.sheet\0title.book", "many.calls")?;
+    let lines = [
+        "reach\0title.sheet\0many.sheet\0title.book",
+        "reach\0many.sheet\0title.sheet\0title.book\0--json",
+    ];
+    cases(rt, &lines);
+    list(rt, "replay\0title.sheet\0title.book", "huge.calls")?;
+    case(rt, "reach\0title.sheet\0huge.sheet\0title.book");
     Ok(())
 }
 

@@ -65,6 +65,7 @@ pub fn argument_count(line: &[u8]) -> usize {
 }
 
 // Puts the arguments from number `first` on into the room, each with a zero byte behind it, where they leave a byte free.
+// Stays counted: a loop has to end, and nothing says that the arguments do.
 pub fn join(rt: HostRuntime, room: &mut [u8], first: usize) -> Option<usize>
     ensures { IfSome result (λ n. IsPrefixLen n room.new) }
 {

@@ -41,24 +41,21 @@ impl Unusable {
 const EACCES: i32 = 13;
 
 fn not_opened(error: &Error) -> Unusable {
-    if error.kind() == ErrorKind::NotFound {
-        Unusable::Missing
-    } else if error.raw_os_error() == Some(EACCES) {
-        Unusable::Forbidden
-    } else {
-        Unusable::Shut
+    match (error.kind(), error.raw_os_error()) {
+        (ErrorKind::NotFound, _) => Unusable::Missing,
+        (_, Some(EACCES)) => Unusable::Forbidden,
+        _ => Unusable::Shut,
     }
 }
 
 fn not_read(error: &Error) -> Unusable {
-    if error.kind() == ErrorKind::IsADirectory {
-        Unusable::Folder
-    } else {
-        Unusable::Unread
+    match error.kind() {
+        ErrorKind::IsADirectory => Unusable::Folder,
+        _ => Unusable::Unread,
     }
 }
 
-// What is read behind the first n bytes, to the end of the file or of buf; a read that fails ends it too. By hand: `read_to_end` allocates.
+// What is read behind the first n bytes, to the end of the file or of buf; a read that fails ends it too. Stays by hand: `read_to_end` allocates.
 fn read_on(file: &mut File, buf: &mut [u8], n: usize) -> usize
     requires { n ≤ length buf.old }
     ensures { IsPrefixLen result buf.new }
@@ -80,13 +77,10 @@ pub fn try_read(rt: HostRuntime, path: &[u8], buf: &mut [u8]) -> Result<usize, U
     let name = std::str::from_utf8(path).map_err(|_| Unusable::Shut)?;
     let mut file = File::open(&rt, name).map_err(|e| not_opened(&e))?;
     let first = file.read(buf).map_err(|e| not_read(&e))?;
-    let n = read_on(&mut file, buf, first);
-    if n == 0 {
-        Err(Unusable::Empty)
-    } else if n == buf.len() {
-        Err(Unusable::Long)
-    } else {
-        Ok(n)
+    match read_on(&mut file, buf, first) {
+        0 => Err(Unusable::Empty),
+        n if n == buf.len() => Err(Unusable::Long),
+        n => Ok(n),
     }
 }
 

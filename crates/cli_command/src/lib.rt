@@ -14,5 +14,5 @@ pub use arguments::{
 pub use errors::{begin_error, end_error, file_error, missing, too_many, word_error};
 pub use file::{LONGEST, Unusable, Unwritten, read, try_read, write};
 pub use help::{say_version, usage};
-pub use span::{span_of, whole_argument};
+pub use span::{needed, span_of, whole_argument};
 pub use told::{progress, progress_end};

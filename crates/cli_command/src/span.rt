@@ -6,6 +6,15 @@ use crate::errors::{begin_error, end_error, missing, word_error};
 use cli_page::Out;
 use std::ops::Range;
 
+// Word k; where there is none, that is told.
+pub fn needed<'a>(out: &mut Out, line: &'a [u8], k: usize, what: &str) -> Option<&'a [u8]> {
+    let word = argument(line, k);
+    if word.is_none() {
+        missing(out, what);
+    }
+    word
+}
+
 fn no_whole(out: &mut Out, what: &str, text: &[u8]) {
     begin_error(out);
     out.word("", "argument", what);
@@ -18,10 +27,7 @@ fn no_whole(out: &mut Out, what: &str, text: &[u8]) {
 pub fn whole_argument(out: &mut Out, line: &[u8], k: usize, what: &str) -> Option<u32>
     ensures { IfSome result (λ n. n < 16777216) }
 {
-    let Some(text) = argument(line, k) else {
-        missing(out, what);
-        return None;
-    };
+    let text = needed(out, line, k, what)?;
     let n = cli_words::whole(text);
     if n.is_none() {
         no_whole(out, what, text);

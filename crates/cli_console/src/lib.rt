@@ -16,14 +16,19 @@ use std::io::Read;
 
 // One command that has a name. `from` is standard input, or what stands in its place.
 fn command<R: Read>(from: &mut R, out: &mut Out, line: &[u8], name: &[u8]) {
-    match name {
+    let done = match name {
         b"check" => check::check(out, line),
         b"info" => info::info(out, line),
         b"frames" => frames::frames(out, line),
         b"reach" => edits::reach(out, line),
         b"replay" => replay::replay(from, out, line),
-        _ => word_error(out, name, "is no command; menu_cli help lists them"),
-    }
+        _ => {
+            word_error(out, name, "is no command; menu_cli help lists them");
+            None
+        }
+    };
+    // what is wrong was told where it was found
+    let _ = done;
 }
 
 fn help(out: &mut Out, line: &[u8]) {

@@ -28,7 +28,9 @@ fn shows_progress(rt: HostRuntime, line: &[u8]) -> bool {
 
 // Output that was lost is no success.
 fn run_line(rt: HostRuntime, line: &[u8]) -> Status {
-    let mut out = Out::new(rt, false, true, shows_progress(rt, line));
+    let mut out = Out::new(rt);
+    out.aside = true;
+    out.told = shows_progress(rt, line);
     crate::run(&mut rt.stdin(), &mut out, line);
     out.flush();
     if out.lost {
@@ -43,6 +45,7 @@ pub fn start(rt: HostRuntime) -> Status {
     if !is_open(&rt.stdout()) {
         return complain(rt, "standard output: is closed");
     }
+    // Stays an array of the longest command line: nothing allocates.
     let mut line = [0u8; 65536];
     match cli_command::join(rt, &mut line, 1) {
         Some(n) => run_line(rt, &line[..n]),

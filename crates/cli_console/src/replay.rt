@@ -1,11 +1,12 @@
 // The command `replay`: the calls on standard input, one a line, each made and answered behind its line's number and its words.
 use crate::open::open;
-use cli_calls::{Unread, Verb, call_of};
+use cli_calls::{Call, Unread, call_of};
 use cli_command::{file_error, progress, progress_end};
-use cli_facts::{Files, Keys, KeysMut};
+use cli_facts::{Files, Loaded};
 use cli_input::{Input, TooLong};
 use cli_page::{Out, Status};
-use cli_words::{Words, unquoted, word};
+use cli_words::{Words, word};
+use curve::KeysMut;
 use player::Player;
 use std::io::Read;
 
@@ -54,19 +55,17 @@ fn begin_answer(out: &mut Out, line: &[u8], number: u64) {
     out.say(if out.json { "\"" } else { ":" });
 }
 
-// A line: its call is made and answered, or what is wrong with it told. The keys are three slices: a struct that holds them can't be lent on, call by call.
+// A line: its call is made and answered, or what is wrong with it told.
 fn answer_line(
     out: &mut Out,
     player: &mut Player,
     files: Files<'_>,
-    frames: &mut [f32],
-    values: &mut [f32],
-    slopes: &mut [f32],
+    keys: KeysMut<'_>,
     line: &[u8],
     number: u64,
 ) {
-    let c = match call_of(line, files.book.bytes) {
-        Ok(Some(c)) => c,
+    let call = match call_of(line, files.book) {
+        Ok(Some(call)) => call,
         Ok(None) => return,
         Err(unread) => {
             say_unread(out, line, number, unread);
@@ -74,23 +73,22 @@ fn answer_line(
         }
     };
     begin_answer(out, line, number);
-    if let Verb::Save = c.verb {
-        let path = word(line, 1).map(unquoted).filter(|path| !path.is_empty());
-        cli_saved::save(
-            out,
-            player,
-            files.sheet,
-            Keys::new(frames, values, slopes),
-            path,
-        );
-        return;
-    }
-    let keys = KeysMut {
+    let KeysMut {
         frames,
         values,
         slopes,
-    };
-    cli_answers::answer(out, number, player, c, files, keys);
+    } = keys;
+    match call {
+        Call::Make(action) => {
+            cli_answers::answer(out, player, action, files, frames, values, slopes);
+        }
+        Call::Show(query) => {
+            cli_shown::show(out, number, query, player, files, frames, values, slopes);
+        }
+        Call::Save(path) => {
+            cli_saved::save(out, player, files.sheet, frames, values, slopes, path);
+        }
+    }
 }
 
 // The text of a line: the first may begin with a byte order mark, which some editors write.
@@ -102,18 +100,17 @@ fn text_of<'a>(line: &'a [u8], number: u64) -> &'a [u8] {
 }
 
 // Every line of standard input, or of what stands in its place. What was answered goes out before more is waited for.
-fn each_line<R: Read>(
-    from: &mut R,
-    out: &mut Out,
-    fresh: Player,
-    files: Files<'_>,
-    frames: &mut [f32],
-    values: &mut [f32],
-    slopes: &mut [f32],
-) {
-    let mut player = fresh;
+fn each_line<R: Read>(from: &mut R, out: &mut Out, files: Files<'_>, loaded: Loaded) {
+    let Loaded {
+        mut player,
+        mut frames,
+        mut values,
+        mut slopes,
+        count,
+    } = loaded;
     let mut input = Input::new();
     let mut lines = 0;
+    // Stays counted: a loop has to end, and nothing says that an input does.
     for number in 1..u64::MAX {
         if !input.has_line() {
             out.flush();
@@ -122,16 +119,14 @@ fn each_line<R: Read>(
             break;
         };
         match line {
-            Ok(line) => answer_line(
-                out,
-                &mut player,
-                files,
-                frames,
-                values,
-                slopes,
-                text_of(line, number),
-                number,
-            ),
+            Ok(line) => {
+                let keys = KeysMut {
+                    frames: &mut frames[..count],
+                    values: &mut values[..count],
+                    slopes: &mut slopes[..count],
+                };
+                answer_line(out, &mut player, files, keys, text_of(line, number), number);
+            }
             Err(TooLong) => say_long(out, number),
         }
         lines = number;
@@ -143,8 +138,9 @@ fn each_line<R: Read>(
     }
 }
 
-pub fn replay<R: Read>(from: &mut R, out: &mut Out, line: &[u8]) {
-    open(out, line, 3, |out, p, files, frames, values, slopes| {
-        each_line(from, out, p, files, frames, values, slopes);
-    });
+// None where what is wrong with the line or a file was told.
+pub fn replay<R: Read>(from: &mut R, out: &mut Out, line: &[u8]) -> Option<()> {
+    open(out, line, 3, |out, files, loaded| {
+        each_line(from, out, files, loaded);
+    })
 }

@@ -3,34 +3,69 @@ ghost use Rattle.std.specs.Prelude.{◌<◌};
 ghost use Rattle.book.specs.Sizes.{pane_count};
 
 use crate::lead::Lead;
-use crate::lent::{Book, Menu};
+use crate::screen::Screen;
 use crate::shown::say_shown;
+use book::Book;
 use cli_page::Out;
-use player::Player;
+use resolve::Cascaded;
 
-fn say_state(out: &mut Out, lead: Lead, book: Book<'_>, i: usize, is_visible: bool, alpha: f32)
+// The most panes of a book.
+pub const MOST_PANES: usize = 64;
+
+// What the cascade gives the panes of a book. Stays three arrays of the most panes: nothing allocates, and the calls write three slices.
+#[derive(Clone, Copy)]
+pub struct Cascade {
+    pub visible: [u8; MOST_PANES],
+    pub alpha: [f32; MOST_PANES],
+    pub influence: [f32; MOST_PANES],
+}
+
+impl Cascade {
+    ghost use Rattle.std.specs.Prelude.{◌≡◌, ◌<◌, eqb, slice_index, get_or};
+    ghost use Rattle.std.specs.Float.{nan};
+
+    pub fn none() -> Cascade {
+        Cascade {
+            visible: [0; MOST_PANES],
+            alpha: [0.0; MOST_PANES],
+            influence: [0.0; MOST_PANES],
+        }
+    }
+
+    // What it gives one pane.
+    pub fn pane(&self, i: usize) -> Cascaded
+        requires { i < 64 }
+        ensures visible { result.visible ≡ eqb (slice_index self.now.visible i) 1 }
+        ensures alpha { result.alpha ≡ get_or self.now.alpha i nan }
+        ensures influence { result.influence ≡ get_or self.now.influence i nan }
+    {
+        Cascaded {
+            visible: self.visible[i] == 1,
+            alpha: self.alpha[i],
+            influence: self.influence[i],
+        }
+    }
+}
+
+fn say_state(out: &mut Out, lead: Lead, book: Book<'_>, i: usize, state: Cascaded)
     requires { i < pane_count book.bytes.now }
 {
     lead.begin(out);
-    cli_printed::pane(out, "pane ", book.bytes, i);
-    say_shown(out, " ", is_visible);
-    cli_numbers::number(out, " alpha ", "alpha", alpha);
+    cli_printed::pane(out, "pane ", book, i);
+    say_shown(out, " ", state.visible);
+    cli_numbers::number(out, " alpha ", "alpha", state.alpha);
     out.end();
 }
 
-// Every pane's state, or the refusal. A book has 64 panes at most.
-pub fn say_cascade(out: &mut Out, lead: Lead, p: &Player, menu: Menu<'_>) {
-    let book = menu.files.book;
-    let n = book::pane_count(book.bytes);
-    let mut visible = [0u8; 64];
-    let mut alpha = [0.0f32; 64];
-    let mut influence = [0.0f32; 64];
-    let cascade = menu.cascade(p, &mut visible[..n], &mut alpha[..n], &mut influence[..n]);
-    if let Err(refusal) = cascade {
-        lead.say_refusal(out, refusal);
-        return;
-    }
-    for i in 0..n {
-        say_state(out, lead, book, i, visible[i] == 1, alpha[i]);
+// Every pane's state, or the refusal.
+pub fn say_cascade(out: &mut Out, lead: Lead, screen: Screen<'_>) {
+    let book = screen.book;
+    match screen.cascade() {
+        Ok(cascade) => {
+            for i in 0..book.pane_count() {
+                say_state(out, lead, book, i, cascade.pane(i));
+            }
+        }
+        Err(refusal) => lead.say_refusal(out, refusal),
     }
 }

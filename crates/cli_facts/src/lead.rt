@@ -1,5 +1,6 @@
 // What stands in front of each fact.
 use cli_page::Out;
+use laws::Refusal;
 
 // The frame that shows it, or the line of the call that asked for it.
 #[derive(Clone, Copy, Debug)]
@@ -31,7 +32,7 @@ impl Lead {
     }
 
     // In place of all facts, why there are none.
-    pub fn say_refusal(self, out: &mut Out, refusal: u8) {
+    pub fn say_refusal(self, out: &mut Out, refusal: Refusal) {
         self.begin(out);
         cli_printed::refusal(out, "", refusal);
         out.end();

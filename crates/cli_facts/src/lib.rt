@@ -3,14 +3,16 @@
 
 mod cascade;
 mod lead;
-mod lent;
+mod loaded;
 mod places;
 mod readings;
+mod screen;
 mod shown;
 
-pub use cascade::say_cascade;
+pub use cascade::{Cascade, MOST_PANES, say_cascade};
 pub use lead::{Lead, say_line};
-pub use lent::{Book, Files, Keys, KeysMut, Menu, Sheet, accepted, key_place};
+pub use loaded::{Loaded, MOST_KEYS};
 pub use places::{place_of, say_place};
-pub use readings::{say_readings, slot_of};
+pub use readings::{MOST_CHANNELS, Overrides, say_readings, slot_of};
+pub use screen::{Files, Screen};
 pub use shown::{say_reading, say_shown};

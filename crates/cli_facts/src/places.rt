@@ -3,7 +3,7 @@ ghost use Rattle.std.specs.Prelude.{◌<◌};
 ghost use Rattle.channel.specs.Channel.{channel_count};
 ghost use Rattle.channel.specs.Place.{PlacedIn};
 
-use crate::lent::Book;
+use book::Book;
 use channel::Place;
 use cli_page::Out;
 use cli_printed::Owner;
@@ -14,7 +14,7 @@ pub fn place_of(book: Book<'_>, c: usize) -> Place
     requires { c < channel_count book.bytes.now }
     ensures { PlacedIn book.entry.bytes.now result }
 {
-    channel::place_of(book.bytes, c)
+    channel::place_of(&book, c)
 }
 
 // `pane NAME CHANNEL`, or `material NAME CHANNEL`.
@@ -23,11 +23,11 @@ pub fn say_place(out: &mut Out, book: Book<'_>, place: Place)
 {
     match place {
         Place::Pane(i, c) => {
-            cli_printed::pane(out, "pane ", book.bytes, i);
+            cli_printed::pane(out, "pane ", book, i);
             cli_printed::name_channel(out, Owner::Pane, c);
         }
         Place::Material(i, c) => {
-            cli_printed::material(out, "material ", book.bytes, i);
+            cli_printed::material(out, "material ", book, i);
             cli_printed::name_channel(out, Owner::Material, c);
         }
     }

@@ -4,44 +4,32 @@
 mod asked;
 mod parts;
 
-use asked::{float_of, say_asked};
+use asked::{say_asked, say_number};
 use cli_page::Out;
-use faults::{Fault, rules};
+use faults::{Fault, Rule};
+use laws::Refusal;
 use parts::{say_field, say_part};
 
-// Why a file is declined: the refusal's number, and the first rule that is broken.
+// Why a file is declined: the refusal, and the first rule that is broken, where one is.
 #[derive(Clone, Copy)]
 pub struct Declined {
-    pub refusal: u8,
-    pub fault: Fault,
+    pub refusal: Refusal,
+    pub fault: Option<Fault>,
 }
 
-// What is there: a number, or the bits of an f32. Of a name it is told what is wrong with it.
+// What is there. Of a name it is told what is wrong with it.
 fn say_there(out: &mut Out, fault: Fault) {
-    match fault.rule {
-        rules::LABEL_EMPTY | rules::NAME_EMPTY => out.lead(": is empty"),
-        rules::LABEL_TWICE | rules::NAME_TWICE => {
-            out.count(": is that of row ", "row_before", fault.wants as u64);
+    match (fault.rule, fault.wants) {
+        (Rule::LabelEmpty | Rule::NameEmpty, _) => out.lead(": is empty"),
+        (Rule::LabelTwice | Rule::NameTwice, Some(before)) => {
+            say_number(out, ": is that of row ", "row_before", before);
         }
-        rules::PANE_FINITE
-        | rules::MATERIAL_FINITE
-        | rules::FRAME_FINITE
-        | rules::VALUE_FINITE
-        | rules::SLOPE_FINITE
-        | rules::CONSTANT_FRAME
-        | rules::CONSTANT_SLOPE
-        | rules::STEP_SLOPE
-        | rules::STEP_VALUE
-        | rules::FRAME_ORDER => cli_numbers::number(out, ": is ", "is", float_of(fault.there)),
-        _ => out.count(": is ", "is", fault.there as u64),
+        _ => say_number(out, ": is ", "is", fault.there),
     }
 }
 
-// `: PART ROW, FIELD, byte N: is X, may be Y`, where a rule is broken.
+// `: PART ROW, FIELD, byte N: is X, may be Y`.
 fn say_fault(out: &mut Out, fault: Fault) {
-    if fault.rule == rules::NONE {
-        return;
-    }
     say_part(out, fault);
     say_field(out, fault.rule);
     out.count(", byte ", "offset", fault.at as u64);
@@ -60,7 +48,9 @@ pub fn say_verdict(out: &mut Out, path: &[u8], kind: &str, verdict: Result<(), D
         }
         Err(declined) => {
             cli_printed::refusal(out, ": ", declined.refusal);
-            say_fault(out, declined.fault);
+            if let Some(fault) = declined.fault {
+                say_fault(out, fault);
+            }
         }
     }
 }

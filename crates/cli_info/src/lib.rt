@@ -7,6 +7,6 @@ mod sheet_rows;
 mod tracks;
 
 pub use book_rows::say_book;
-pub use contents::{say_named, say_unreached};
+pub use contents::{ContentType, say_named, say_unreached};
 pub use sheet_rows::{say_animation, say_sheet};
 pub use tracks::{channel_of, say_code};

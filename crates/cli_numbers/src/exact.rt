@@ -1,5 +1,5 @@
 // The digits after the point of an f32, all of them: a fraction of 60 binary places at most has as many decimal ones.
-ghost use Rattle.std.specs.Prelude.{◌<◌, ◌≤◌, length};
+ghost use Rattle.std.specs.Prelude.{◌<◌, ◌≤◌};
 
 use cli_page::Out;
 use std::fmt::Write;

@@ -37,26 +37,7 @@ fn tens(places: usize) -> u32
     10u32.pow(places as u32)
 }
 
-// The text of digits of which so many are places after the point.
-fn spell(negative: bool, digits: u64, places: usize) -> Text
-    requires { places ≤ 6 }
-{
-    let scale = tens(places) as u64;
-    let mut text = Text::new();
-    let _ = write!(
-        text,
-        "{}{}",
-        if negative { "-" } else { "" },
-        digits / scale
-    );
-    if places > 0 {
-        let part = digits % scale;
-        let _ = write!(text, ".{part:0places$}");
-    }
-    text
-}
-
-// The digit of a number below 16, in upper case. By hand, as `hex_text` is: no clause of std says what `{:X}` writes.
+// The digit of a number below 16, in upper case. Stays by hand, as `hex_text`: no clause of std says what `{:X}` writes.
 #[tactic(auto, using(std::proofs::lemmas::Bool::Decides::nat_tests), unfolding(crate::specs::Text::glyph))]
 fn glyph(d: u32) -> u8
     requires { d < 16 }
@@ -99,7 +80,23 @@ impl Signed {
         })
     }
 
-    // The text of digits, where it reads back as the number.
+    // The text of digits of which so many are places after the point.
+    fn spell(&self, digits: u64, places: usize) -> Text
+        requires { places ≤ 6 }
+    {
+        let scale = tens(places) as u64;
+        let sign = if self.negative { "-" } else { "" };
+        let whole = digits / scale;
+        let part = digits % scale;
+        let mut text = Text::new();
+        let _ = write!(text, "{sign}{whole}");
+        if places > 0 {
+            let _ = write!(text, ".{part:0places$}");
+        }
+        text
+    }
+
+    // The text of digits, where it reads back as the number. Stays a comparison: a text of 2^24 or more is read as no number.
     fn attempt(&self, digits: u64, places: usize) -> Option<Text>
         requires { places ≤ 6 }
         ensures { IfSome result (λ text. Shown self.now.value text.bytes) }
@@ -112,7 +109,7 @@ impl Signed {
         if std::num::nearest_u32_to_f32(digits as u32) / scale != self.size {
             return None;
         }
-        let text = spell(self.negative, digits, places);
+        let text = self.spell(digits, places);
         let y = cli_words::read_number(text.as_str().as_bytes())?;
         if float::same_bits(self.value, y) {
             Some(text)
@@ -128,22 +125,15 @@ impl Signed {
     {
         let shifted = self.size * std::num::nearest_u32_to_f32(tens(places));
         let digits = float::cut_u64(float::nearest_whole(shifted));
-        if let Some(text) = self.attempt(digits, places) {
-            return Some(text);
-        }
-        self.attempt(digits.checked_sub(1)?, places)
+        self.attempt(digits, places)
+            .or_else(|| self.attempt(digits.checked_sub(1)?, places))
     }
 
     // The shortest decimal that reads back as the number.
     fn decimal(&self) -> Option<Text>
         ensures { IfSome result (λ text. Shown self.now.value text.bytes) }
     {
-        for places in 0..=PLACES {
-            if let Some(text) = self.nearest(places) {
-                return Some(text);
-            }
-        }
-        None
+        (0..=PLACES).find_map(|places| self.nearest(places))
     }
 
     fn say_sign(&self, out: &mut Out) {

@@ -1,13 +1,15 @@
 // Standard output by pages. A write for each word would cost more than all else: a frame of a menu has some thirty lines of eleven words.
-// The number of bytes on the page is a u16 and the page has 65,536, so that a place on it needs no proof.
-ghost use Rattle.std.specs.Prelude.{◌≡◌, ◌++◌, ◌<◌, ◌+◌, length, take, drop};
+ghost use Rattle.std.specs.Prelude.{◌≡◌, ◌++◌, ◌≤◌, ◌+◌, [], length};
+ghost use Rattle.arrayvec.specs.ArrayVec.{array_vec_len};
 
+use arrayvec::ArrayVec;
 use std::fmt;
 use std::io::Print;
 
 const PAGE: usize = 65536;
 
 // What a command came to, which is its exit status: the largest of what its parts came to. Wrong use, and a file that can't be read or written, are `Wrong`.
+// Stays an enum of its own: three outcomes by their rank, and a `Result` has two.
 #[derive(Clone, Copy, Debug, PartialEq, Eq, PartialOrd, Ord)]
 pub enum Status {
     Accepted = 0,
@@ -15,13 +17,13 @@ pub enum Status {
     Wrong = 2,
 }
 
-// `at` bytes of the page are not written yet. `lost`: a write failed. `json`: lines are JSON objects; `bare`: the object has no member yet.
+// What is on the page is not written yet. `lost`: a write failed. `json`: lines are JSON objects; `bare`: the object has no member yet.
 // `aside`: an error that ends a command goes to standard error. `told`: progress is shown. `rt`: by it what has an `Out` writes, and opens files.
+// Stays a flag, `json`: each thing that is said tells its two forms side by side.
 #[derive(Drop)]
 pub struct Out {
     pub rt: HostRuntime,
-    pub page: [u8; PAGE],
-    pub at: u16,
+    pub page: ArrayVec<u8, PAGE>,
     pub lost: bool,
     pub json: bool,
     pub bare: bool,
@@ -30,85 +32,69 @@ pub struct Out {
     pub told: bool,
 }
 
-// What is on a page goes to a stream; whether it did.
-fn is_written<P: Print>(page: &[u8; PAGE], at: u16, to: &P) -> bool {
-    to.write_all(&page[..at as usize]).is_ok()
-}
-
-// The text at a place of the page.
-fn put_in(page: &mut [u8], at: usize, text: &[u8])
-    requires { at + length text.now < length page.old }
-    ensures { page.new ≡ take at page.old ++ (text.now ++ drop (at + length text.now) page.old) }
-{
-    let end = at + text.len();
-    page[at..end].copy_from_slice(text);
-}
-
 impl Out {
-    ghost use Rattle.std.specs.Prelude.{◌≡◌, ◌<◌, ◌+◌, length};
+    ghost use Rattle.std.specs.Prelude.{◌≡◌, ◌++◌, ◌≤◌, ◌+◌, [], length};
+    ghost use Rattle.arrayvec.specs.ArrayVec.{array_vec_len};
 
-    pub fn new(rt: HostRuntime, json: bool, aside: bool, told: bool) -> Out {
+    // Lines of text, all of them on standard output.
+    pub fn new(rt: HostRuntime) -> Out {
         Out {
             rt,
-            page: [0; PAGE],
-            at: 0,
+            page: ArrayVec::new(),
             lost: false,
-            json,
+            json: false,
             bare: true,
             status: Status::Accepted,
-            aside,
-            told,
+            aside: false,
+            told: false,
         }
     }
 
     // Its outcome is at least `status`.
     pub fn came_to(&mut self, status: Status) {
-        if self.status < status {
-            self.status = status;
+        self.status = self.status.max(status);
+    }
+
+    // What is on the page goes to a stream.
+    fn flush_to<P: Print>(&mut self, to: &P)
+        ensures { self.new.page.items ≡ [] }
+    {
+        if to.write_all(self.page.as_slice()).is_err() {
+            self.lost = true;
         }
+        self.page.clear();
     }
 
     // What is on the page goes to standard output.
     pub fn flush(&mut self)
-        ensures { self.new.at ≡ 0 }
+        ensures { self.new.page.items ≡ [] }
     {
-        if !is_written(&self.page, self.at, &self.rt.stdout()) {
-            self.lost = true;
-        }
-        self.at = 0;
+        let to = self.rt.stdout();
+        self.flush_to(&to);
     }
 
     // What is on the page is an error, and goes where errors go.
     pub fn flush_error(&mut self)
-        ensures { self.new.at ≡ 0 }
+        ensures { self.new.page.items ≡ [] }
     {
         if self.json | !self.aside {
             self.flush();
-            return;
+        } else {
+            let to = self.rt.stderr();
+            self.flush_to(&to);
         }
-        if !is_written(&self.page, self.at, &self.rt.stderr()) {
-            self.lost = true;
-        }
-        self.at = 0;
-    }
-
-    // The text behind what is on the page, which has room.
-    fn put(&mut self, text: &[u8])
-        requires { self.old.at + length text.now < 65536 }
-        ensures { self.new.at ≡ self.old.at + length text.now }
-    {
-        put_in(&mut self.page, self.at as usize, text);
-        self.at = self.at + text.len() as u16;
     }
 
     // The bytes behind all that was said before.
-    pub fn say_bytes(&mut self, text: &[u8]) {
-        if text.len() >= PAGE - self.at as usize {
-            self.flush();
+    pub fn say_bytes(&mut self, text: &[u8])
+        ensures { array_vec_len self.old.page + length text.now ≤ 65536 → self.new.page.items ≡ self.old.page.items ++ text.now }
+    {
+        if self.page.try_extend_from_slice(text).is_ok() {
+            return;
         }
-        if text.len() < PAGE - self.at as usize {
-            self.put(text);
-        } else if self.rt.stdout().write_all(text).is_err() {
+        self.flush();
+        let fits = self.page.try_extend_from_slice(text).is_ok();
+        if !fits && self.rt.stdout().write_all(text).is_err() {
             self.lost = true;
         }
     }

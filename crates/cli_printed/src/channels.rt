@@ -1,11 +1,9 @@
 // Channels by name, in the order of their numbers. The names are the variants of targets.rs, and plain words where an enum has no word for it;
 // the program channel_names prints them all, and what it must print is made from targets.rs.
+ghost use Rattle.std.specs.Prelude.{◌<◌, ◌≤◌, length, IfSome};
+
+pub use channel::{MATERIAL_CHANNELS, PANE_CHANNELS};
 use cli_page::Out;
-
-// How many channels a pane has, and a material.
-pub const PANE_CHANNELS: usize = 28;
-
-pub const MATERIAL_CHANNELS: usize = 30;
 
 static PANE: [&str; PANE_CHANNELS] = [
     "translate_x",
@@ -71,14 +69,16 @@ static MATERIAL: [&str; MATERIAL_CHANNELS] = [
     "white_alpha",
 ];
 
-// Whose a channel is.
+// Whose a channel is. Stays apart from `channel::Reached`: it names the kind alone, with no row.
 #[derive(Clone, Copy, Debug, PartialEq, Eq)]
 pub enum Owner {
     Pane,
     Material,
 }
 
-fn names(owner: Owner) -> &'static [&'static str] {
+fn names(owner: Owner) -> &'static [&'static str]
+    ensures { length result.now ≤ 30 }
+{
     match owner {
         Owner::Pane => &PANE,
         Owner::Material => &MATERIAL,
@@ -86,7 +86,9 @@ fn names(owner: Owner) -> &'static [&'static str] {
 }
 
 // The channel that a word names.
-pub fn channel(owner: Owner, w: &[u8]) -> Option<usize> {
+pub fn channel(owner: Owner, w: &[u8]) -> Option<usize>
+    ensures { IfSome result (λ c. c < 30) }
+{
     names(owner).iter().position(|name| name.as_bytes() == w)
 }
 

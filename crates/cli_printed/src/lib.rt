@@ -7,4 +7,4 @@ mod refusals;
 
 pub use channels::{MATERIAL_CHANNELS, Owner, PANE_CHANNELS, channel, name_channel};
 pub use names::{material, name, pane};
-pub use refusals::{meaning, refusal, refused, say_refusals};
+pub use refusals::{accepted, meaning, refusal, refused, say_refusals};

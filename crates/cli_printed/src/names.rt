@@ -1,8 +1,8 @@
 // Names, as a 24-byte field holds them.
 ghost use Rattle.std.specs.Prelude.{◌<◌};
-ghost use Rattle.book.specs.Checked.{CheckedBook};
 ghost use Rattle.book.specs.Sizes.{pane_count, material_count};
 
+use book::Book;
 use cli_page::Out;
 
 // A name without the zero bytes at its end.
@@ -18,14 +18,14 @@ pub fn name(out: &mut Out, before: &str, key: &str, field: &[u8]) {
     out.bytes(before, key, counted(field));
 }
 
-pub fn pane(out: &mut Out, before: &str, b: &[u8], i: usize)
-    requires { CheckedBook b.now × (i < pane_count b.now) }
+pub fn pane(out: &mut Out, before: &str, book: Book<'_>, i: usize)
+    requires { i < pane_count book.bytes.now }
 {
-    name(out, before, "pane", book::pane_label(b, i));
+    name(out, before, "pane", book.pane_label(i));
 }
 
-pub fn material(out: &mut Out, before: &str, b: &[u8], i: usize)
-    requires { CheckedBook b.now × (i < material_count b.now) }
+pub fn material(out: &mut Out, before: &str, book: Book<'_>, i: usize)
+    requires { i < material_count book.bytes.now }
 {
-    name(out, before, "material", book::material_name(b, i));
+    name(out, before, "material", book.material_name(i));
 }

@@ -1,9 +1,12 @@
 // Where the channel of an edited track reads differently: the whole frames, and the largest change.
-use crate::compared::Track;
+ghost use Rattle.std.specs.Prelude.{◌<◌};
+ghost use Rattle.sheet.specs.Sizes.{target_count};
+
+use crate::compared::Compared;
 use crate::runs::Runs;
-use cli_facts::Sheet;
 use cli_page::Out;
 use reading::Reading;
+use sheet::Sheet;
 
 // A frame that reads differently.
 #[derive(Clone, Copy)]
@@ -23,7 +26,7 @@ fn size_of(before: Reading, after: Reading) -> f32 {
 }
 
 impl Change {
-    // A NaN is above every number.
+    // Stays by hand: a NaN is above every number here, and beside them in the order of f32.
     fn is_above(&self, other: &Change) -> bool {
         let x = self.size;
         let y = other.size;
@@ -34,8 +37,8 @@ impl Change {
 // The name of a texture of the sheet, where there is that row.
 fn texture<'a>(sheet: Sheet<'a>, r: Reading) -> Option<&'a [u8]> {
     match r {
-        Reading::Row(row) if (row as usize) < sheet::texture_count(sheet.bytes) => {
-            Some(sheet::texture_name(sheet.bytes, row as usize))
+        Reading::Row(row) if (row as usize) < sheet.texture_count() => {
+            Some(sheet.texture_name(row as usize))
         }
         _ => None,
     }
@@ -72,12 +75,15 @@ fn say_largest(out: &mut Out, sheet: Sheet<'_>, largest: Change) {
 }
 
 // The frames before `end` at which a track reads differently, both ends of the animation among them, and the first of the largest changes.
-pub fn say_changes(out: &mut Out, sheet: Sheet<'_>, track: Track<'_>, end: u32) {
+pub fn say_changes(out: &mut Out, compared: Compared<'_>, t: usize, end: u32)
+    requires { t < target_count compared.sets.old.sheet.bytes.now }
+{
+    let sheet = compared.sets.old.sheet;
     let mut runs = Runs::begin(out);
     let mut largest: Option<Change> = None;
     for f in 0..end {
         let at = f as u64;
-        let (before, after) = track.readings(f);
+        let (before, after) = compared.readings(t, f);
         let same = reach::same_reading(before, after);
         runs.next(out, at, !same);
         if same {

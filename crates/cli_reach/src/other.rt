@@ -1,16 +1,11 @@
 // Sheets that differ in more than keys: the first part of the new one that is not as in the old one.
-use cli_facts::Sheet;
 use cli_page::{Out, Status};
+use sheet::{ANIMATION_BYTES, Sheet};
 
-// How many bytes the row of an animation takes.
-const ANIMATION_BYTES: usize = 28;
-
-// The first byte that differs, or the length of the shorter.
-fn first_apart(s: &[u8], t: &[u8]) -> usize {
-    match s.iter().zip(t).position(|(a, b)| a != b) {
-        Some(i) => i,
-        None => s.len().min(t.len()),
-    }
+// Where two sheets differ: the first byte that does, or the end of the shorter.
+fn difference_at(s: &[u8], t: &[u8]) -> usize {
+    let shorter = s.len().min(t.len());
+    s.iter().zip(t).position(|(a, b)| a != b).unwrap_or(shorter)
 }
 
 // A size, by its byte in the head.
@@ -24,7 +19,7 @@ fn size_field(at: usize) -> &'static str {
     }
 }
 
-// A field of an animation, of a content and of a target, by its byte in the row.
+// A field of an animation, of a content and of a target, by its byte in the row. Stays a function for each: each row has fields of its own.
 fn animation_field(at: usize) -> &'static str {
     match at {
         0 | 1 => "frame count",
@@ -89,7 +84,7 @@ fn say_part(out: &mut Out, sheet: Sheet<'_>, i: usize) {
 
 // One line, by which the command comes to declined.
 pub fn say_other(out: &mut Out, old: &[u8], new: &[u8], sheet: Sheet<'_>, edited: &[u8]) {
-    let i = first_apart(sheet.bytes, edited);
+    let i = difference_at(sheet.bytes, edited);
     out.came_to(Status::Declined);
     out.begin();
     out.bytes("", "file", new);

@@ -1,12 +1,13 @@
 // Behind the animations: every pane and material touched or untouched, and the counts.
 use crate::compared::Compared;
-use crate::marks::{Marks, count};
-use cli_facts::{Book, Keys};
+use crate::marks::{Marks, PaneMark};
+use book::Book;
 use cli_page::Out;
-use float::same_bits;
+use edit::put::same_key;
+use reach::TwoSets;
 
-// Of a pane: a channel of its own is touched; its row of the cascade follows the row above it.
-fn say_how(out: &mut Out, own: bool, follows: bool) {
+fn say_how(out: &mut Out, mark: PaneMark) {
+    let PaneMark { own, follows } = mark;
     if out.json {
         out.flag("", "touched", own | follows);
         out.flag("", "own", own);
@@ -22,20 +23,19 @@ fn say_how(out: &mut Out, own: bool, follows: bool) {
 }
 
 fn say_panes(out: &mut Out, book: Book<'_>, marks: &Marks) {
-    for i in 0..book::pane_count(book.bytes) {
-        let mark = marks.panes[i];
+    for i in 0..book.pane_count() {
         out.begin();
-        cli_printed::pane(out, "pane ", book.bytes, i);
-        say_how(out, mark % 2 == 1, mark >= 2);
+        cli_printed::pane(out, "pane ", book, i);
+        say_how(out, marks.pane(i));
         out.end();
     }
 }
 
 fn say_materials(out: &mut Out, book: Book<'_>, marks: &Marks) {
-    for i in 0..book::material_count(book.bytes) {
+    for i in 0..book.material_count() {
         let touched = marks.has_material(book, i);
         out.begin();
-        cli_printed::material(out, "material ", book.bytes, i);
+        cli_printed::material(out, "material ", book, i);
         if out.json {
             out.flag("", "touched", touched);
         } else {
@@ -45,58 +45,36 @@ fn say_materials(out: &mut Out, book: Book<'_>, marks: &Marks) {
     }
 }
 
-// Whether a number of the keys is the same in both, bit for bit, where both have it.
-fn same_at(xs: &[f32], ys: &[f32], i: usize) -> bool {
-    match (xs.get(i), ys.get(i)) {
-        (Some(x), Some(y)) => same_bits(*x, *y),
-        _ => true,
-    }
-}
-
-fn same_key(old: Keys<'_>, new: Keys<'_>, i: usize) -> bool {
-    same_at(old.frames, new.frames, i)
-        & same_at(old.values, new.values, i)
-        & same_at(old.slopes, new.slopes, i)
-}
-
 // How many tracks have a key that differs.
-fn edited_tracks(compared: Compared<'_>) -> usize {
-    let sheet = compared.files.sheet;
-    (0..sheet::target_count(sheet.bytes))
-        .filter(|t| !compared.same_track(*t))
+fn edited_tracks(sets: &TwoSets<'_>) -> usize {
+    (0..sets.old.sheet.target_count())
+        .filter(|t| !sets.same_track(*t))
         .count()
 }
 
-// How many keys differ.
-fn edited_keys(old: Keys<'_>, new: Keys<'_>) -> usize {
-    (0..old.frames.len())
-        .filter(|i| !same_key(old, new, *i))
+// How many keys differ, bit for bit.
+fn edited_keys(sets: &TwoSets<'_>) -> usize {
+    (0..sets.old.sheet.key_count())
+        .filter(|i| !same_key(sets.old.keys.key(*i), sets.new.key(*i)))
         .count()
 }
 
 // What was edited.
-fn say_edits(out: &mut Out, compared: Compared<'_>) {
-    let tracks = edited_tracks(compared);
-    let keys = edited_keys(compared.old, compared.new);
+fn say_edits(out: &mut Out, sets: &TwoSets<'_>) {
+    let tracks = edited_tracks(sets);
+    let keys = edited_keys(sets);
     out.begin();
     out.count("edited tracks ", "tracks", tracks as u64);
     out.count(" keys ", "keys", keys as u64);
 }
 
-fn touched_materials(book: Book<'_>, marks: &Marks) -> usize {
-    (0..book::material_count(book.bytes))
-        .filter(|i| marks.has_material(book, *i))
-        .count()
-}
-
 // What was touched, and the rest.
-#[tactic(auto, unfolding(channel::specs::Channel::channel_count))]
 fn say_counts(out: &mut Out, book: Book<'_>, marks: &Marks) {
-    let all_panes = book::pane_count(book.bytes);
-    let all_materials = book::material_count(book.bytes);
-    let channels = count(&marks.channels[..channel::channel_count(book.bytes)]);
-    let panes = count(&marks.panes[..all_panes]);
-    let materials = touched_materials(book, marks);
+    let all_panes = book.pane_count();
+    let all_materials = book.material_count();
+    let channels = marks.touched_channels(book);
+    let panes = marks.touched_panes(book);
+    let materials = marks.touched_materials(book);
     let other_panes = all_panes.saturating_sub(panes);
     let other_materials = all_materials.saturating_sub(materials);
     out.count(" touched channels ", "touched_channels", channels as u64);
@@ -109,9 +87,9 @@ fn say_counts(out: &mut Out, book: Book<'_>, marks: &Marks) {
 
 // The marks are those of all animations together.
 pub fn say_summary(out: &mut Out, compared: Compared<'_>, marks: &Marks) {
-    let book = compared.files.book;
+    let book = compared.book;
     say_panes(out, book, marks);
     say_materials(out, book, marks);
-    say_edits(out, compared);
+    say_edits(out, &compared.sets);
     say_counts(out, book, marks);
 }

@@ -5,14 +5,16 @@ ghost use Rattle.channel.specs.Channel.{channel_count};
 
 use crate::changes::say_changes;
 use crate::compared::Compared;
-use cli_facts::{Files, Sheet, place_of, say_place};
+use cli_facts::{place_of, say_place};
+use cli_info::ContentType;
 use cli_page::Out;
-use reading::MOST_TARGETS;
+use reading::{MOST_TARGETS, numbered_channel};
+use sheet::Sheet;
 
 // Progress is told each time this many tracks are done.
 const EVERY: u64 = 64;
 
-// The last track with the channel of track t, which is t or a later one.
+// The last track with the channel of track t, which is t or a later one. Stays over the plan's numbers: equal channels have equal numbers.
 fn decider(channels: &[u16], t: usize) -> usize
     requires { t < length channels.now }
 {
@@ -29,8 +31,8 @@ fn say_nothing(out: &mut Out) {
 fn say_unaddressed(out: &mut Out, sheet: Sheet<'_>, t: usize)
     requires { t < target_count sheet.bytes.now }
 {
-    let row = sheet::target_row(sheet.bytes, t);
-    let kind = sheet::content_row(sheet.bytes, row.content).kind;
+    let row = sheet.target(t);
+    let kind = ContentType::of(sheet.content(row.content).kind);
     cli_info::say_named(out, sheet, row.content);
     let why = match cli_info::channel_of(kind, row) {
         Some((owner, c)) => {
@@ -51,19 +53,18 @@ pub fn frames_end(sheet: Sheet<'_>, a: usize) -> u32
     requires { a < animation_count sheet.bytes.now }
     ensures { result ≤ 65536 }
 {
-    sheet::animation_row(sheet.bytes, a).frames as u32 + 1
+    sheet.animation(a).frames as u32 + 1
 }
 
 // An edited track with channel c of the book; `by` is the track that decides it.
 fn say_edited(out: &mut Out, compared: Compared<'_>, a: usize, t: usize, c: usize, by: usize)
-    requires in_sheet { (a < animation_count compared.files.sheet.bytes.now) × (t < target_count compared.files.sheet.bytes.now) }
-    requires in_book { c < channel_count compared.files.book.bytes.now }
+    requires in_sheet { (a < animation_count compared.sets.old.sheet.bytes.now) × (t < target_count compared.sets.old.sheet.bytes.now) }
+    requires in_book { c < channel_count compared.book.bytes.now }
 {
-    let Files { sheet, book } = compared.files;
     out.lead(" ");
-    say_place(out, book, place_of(book, c));
+    say_place(out, compared.book, place_of(compared.book, c));
     if by == t {
-        say_changes(out, sheet, compared.track(t), frames_end(sheet, a));
+        say_changes(out, compared, t, frames_end(compared.sets.old.sheet, a));
         return;
     }
     say_nothing(out);
@@ -73,31 +74,32 @@ fn say_edited(out: &mut Out, compared: Compared<'_>, a: usize, t: usize, c: usiz
 
 // Track t, where a key of it differs; `channels` has the channel of each track of the animation, by the track's number.
 fn say_track(out: &mut Out, compared: Compared<'_>, a: usize, t: usize, channels: &[u16])
-    requires in_sheet { (a < animation_count compared.files.sheet.bytes.now) × (t < target_count compared.files.sheet.bytes.now) }
+    requires in_sheet { (a < animation_count compared.sets.old.sheet.bytes.now) × (t < target_count compared.sets.old.sheet.bytes.now) }
     requires in_run { t < length channels.now }
 {
-    if compared.same_track(t) {
+    if compared.sets.same_track(t) {
         return;
     }
     out.begin();
     out.count("animation ", "animation", a as u64);
     out.count(" track ", "track", t as u64);
-    let c = channels[t] as usize;
-    if c < channel::channel_count(compared.files.book.bytes) {
-        say_edited(out, compared, a, t, c, decider(channels, t));
-    } else {
-        say_unaddressed(out, compared.files.sheet, t);
+    match numbered_channel(channels[t]) {
+        Some(c) if c < channel::channel_count(&compared.book) => {
+            say_edited(out, compared, a, t, c, decider(channels, t));
+        }
+        _ => say_unaddressed(out, compared.sets.old.sheet, t),
     }
     out.end();
 }
 
 // The edited tracks of animation a.
 pub fn say_tracks(out: &mut Out, compared: Compared<'_>, a: usize)
-    requires { a < animation_count compared.files.sheet.bytes.now }
+    requires { a < animation_count compared.sets.old.sheet.bytes.now }
 {
-    let Compared { files, .. } = compared;
+    let Compared { sets, book } = compared;
+    // Stays an array of the most targets: nothing allocates.
     let mut channels = [0u16; MOST_TARGETS];
-    let plan = reading::plan_of(files.sheet.bytes, files.book.bytes, a, &mut channels);
+    let plan = reading::plan_of(&sets.old.sheet, book, a, &mut channels);
     let total = plan.to.saturating_sub(plan.from) as u64;
     let mut done = 0u64;
     for t in plan.from..plan.to {

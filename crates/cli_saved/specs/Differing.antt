@@ -1,13 +1,15 @@
 -- How many places of two lists hold different numbers: what `save` tells of the saved sheet against the loaded one. Assumes nothing.
-use Rattle.std.specs.Prelude.{ℕ, zero, suc, ◌+◌, ◌<◌, ◌≤◌, ◌≡◌, Bool, cond, List}
+use Rattle.std.specs.Prelude.{ℕ, zero, suc, ◌+◌, ◌<◌, ◌≤◌, ◌≡◌, Bool, cond, not, List, [], ◌∷◌}
+use Rattle.std.specs.List.{count_by, zip}
 use Rattle.std.proofs.Math.Path.{refl}
-use Rattle.std.proofs.Common.{sym, ext_get_or}
+use Rattle.std.proofs.Common.{sym, ◌∙◌, ext_get_or}
+use Rattle.std.proofs.lemmas.List.Sums.{sum_by-cons}
 use Rattle.std.proofs.Math.Bool.{true, false}
 use native.Mathlib.Omega.{arith}
 use borrow.Author.Tests.{eq-eqb, ne_eqb, eqb-true}
 use Rattle.std.proofs.Math.Dec.{eqb}
 use Rattle.std.proofs.Math.ListN.{length, get_or}
-use Rattle.laws.specs.Sum.{sum_below, sum_none, sum_more, sum_within}
+use Rattle.laws.specs.Sum.{sum_below, sum_none, sum_more, sum_within, sum_same}
 
 -- 1 where a and b hold different numbers at i, else 0
 unfoldable pub unlike : List ℕ → List ℕ → ℕ → ℕ
@@ -69,3 +71,33 @@ module _ (a b : List ℕ) where
   pub counted_all : {i n : ℕ} → Counted a b i n → length a ≤ i → n ≡ differing a b
   unfolding differing
   counted_all {i} h l = let e : i ≡ length a = omega arith in rw e at h.sum
+
+-- the first place, and those behind it
+sum_first : (n : ℕ) (f : ℕ → ℕ) → sum_below (suc n) f ≡ f 0 + sum_below n (λ i. f (suc i))
+unfolding sum_below
+sum_first zero f = omega arith
+sum_first (suc n) f = omega (arith, sum_first n f)
+
+module _ (x y : ℕ) (xs ys : List ℕ) where
+  unlike_first : unlike (x ∷ xs) (y ∷ ys) 0 ≡ cond (not (eqb x y)) 1 0
+  unfolding unlike
+  unlike_first = decide (eqb x y)
+    where
+      decide : (b : Bool) → ◌≡◌ {A = ℕ} (cond b 0 1) (cond (not b) 1 0)
+      decide true = refl
+      decide false = refl
+
+  unlike_next : (i : ℕ) → unlike (x ∷ xs) (y ∷ ys) (suc i) ≡ unlike xs ys i
+  unfolding unlike
+  unlike_next i = refl
+
+-- the pairs of two lists that differ are counted place by place
+pub counted_pairs : (a b : List ℕ) → length b ≡ length a → count_by (λ p. not (eqb p.0 p.1)) (zip a b) ≡ sum_below (length a) (unlike a b)
+counted_pairs [] [] e = sym (sum_none (unlike [] []))
+counted_pairs [] (y ∷ ys) e = absurd (omega (arith, e))
+counted_pairs (x ∷ xs) [] e = absurd (omega (arith, e))
+counted_pairs (x ∷ xs) (y ∷ ys) e =
+    let rest : count_by (λ p. not (eqb p.0 p.1)) (zip xs ys) ≡ sum_below (length xs) (unlike xs ys) = counted_pairs xs ys (omega (arith, e)) in
+    let same : sum_below (length xs) (λ i. unlike (x ∷ xs) (y ∷ ys) (suc i)) ≡ sum_below (length xs) (unlike xs ys) = sum_same (length xs) _ _ (λ i l. unlike_next x y xs ys i) in
+    sum_by-cons (λ p. cond (not (eqb p.0 p.1)) 1 0) (x, y) (zip xs ys)
+    ∙ omega (arith, rest, same, unlike_first x y xs ys, sum_first (length xs) (unlike (x ∷ xs) (y ∷ ys)))

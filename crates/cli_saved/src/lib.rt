@@ -4,10 +4,11 @@
 mod differing;
 
 use cli_command::{LONGEST, Unwritten};
-use cli_facts::{Keys, Sheet};
 use cli_page::{Out, Status};
+use cli_printed::accepted;
 use differing::differing;
 use player::Player;
+use sheet::Sheet;
 
 // `saved N bytes in FILE, D differ from the loaded sheet`.
 fn say_saved(out: &mut Out, path: Option<&[u8]>, bytes: usize, differ: usize) {
@@ -36,12 +37,22 @@ fn cannot_write(out: &mut Out, path: &[u8], why: Unwritten) {
 }
 
 // Saves, to a file where one is named, and answers with the line's end. Where the file can't be written, that is said in the answer's place.
-pub fn save(out: &mut Out, p: &Player, sheet: Sheet<'_>, keys: Keys<'_>, path: Option<&[u8]>) {
+// Stays over three slices: they need not be one length.
+pub fn save(
+    out: &mut Out,
+    p: &Player,
+    sheet: Sheet<'_>,
+    frames: &[f32],
+    values: &[f32],
+    slopes: &[f32],
+    path: Option<&[u8]>,
+) {
     let loaded = sheet.bytes;
+    // Stays an array of the longest file: nothing allocates.
     let mut room = [0u8; LONGEST];
     let saved = &mut room[..loaded.len()];
-    let refusal = menu::save(*p, loaded, keys.frames, keys.values, keys.slopes, saved);
-    if refusal != 0 {
+    let declined = menu::save(*p, loaded, frames, values, slopes, saved);
+    if let Err(refusal) = accepted(declined) {
         cli_printed::refusal(out, " ", refusal);
         out.end();
         return;

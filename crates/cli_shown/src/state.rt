@@ -5,14 +5,15 @@ use edit::NONE;
 use player::Player;
 use player::drag::Drag;
 
-// No animation is a word in text and null in JSON.
-fn say_selection(out: &mut Out, animation: u16) {
-    if animation != NONE {
-        out.count(" selection ", "selection", animation as u64);
-        return;
+// No animation is a word in text and null in JSON. Stays a number, NONE for none: C reads the player.
+fn say_selection(out: &mut Out, selection: u16) {
+    match selection {
+        NONE => {
+            out.key(" selection ", "selection");
+            out.say(if out.json { "null" } else { "none" });
+        }
+        animation => out.count(" selection ", "selection", animation as u64),
     }
-    out.key(" selection ", "selection");
-    out.say(if out.json { "null" } else { "none" });
 }
 
 // The key that is held, and how it was at opening.

@@ -1,10 +1,13 @@
 // Why a call was declined: the refusal's number, and of the things that it may mean the one that it was. What was looked at first by the call is told first.
 #![tactic(auto)]
 
-use cli_calls::{Call, Verb};
-use cli_facts::{Book, Files, Sheet};
+use book::Book;
+use cli_calls::{Action, Call, Query};
+use cli_facts::Files;
 use cli_page::Out;
-use laws::refusal::{BAD_ARGUMENT, DRAG_STATE, NO_ANIMATION, NO_SUCH_ROW, NOTHING_TO_TAKE};
+use cli_printed::Owner;
+use laws::Refusal;
+use sheet::Sheet;
 
 fn words(out: &mut Out, text: &str) {
     out.word(": ", "words", text);
@@ -16,13 +19,13 @@ fn no_such(out: &mut Out, thing: &str, owner: &str, n: usize) {
     out.count(owner, "has", n as u64);
 }
 
-fn no_animation(out: &mut Out, c: Call, sheet: Sheet<'_>) {
-    match c.verb {
-        Verb::Play | Verb::Next => no_such(
+fn no_animation(out: &mut Out, call: Call<'_>, sheet: Sheet<'_>) {
+    match call {
+        Call::Make(Action::Play { .. }) | Call::Show(Query::Next { .. }) => no_such(
             out,
             "no such animation",
             ": the sheet has ",
-            sheet::animation_count(sheet.bytes),
+            sheet.animation_count(),
         ),
         _ => words(out, "nothing is active"),
     }
@@ -46,13 +49,13 @@ fn no_key(out: &mut Out, track: u16, keys: usize) {
 // Of a track and a key.
 #[tactic(auto, using(sheet::specs::Checked::target_content_lem))]
 fn no_track(out: &mut Out, active: u16, track: u16, sheet: Sheet<'_>) {
-    let tracks = sheet::target_count(sheet.bytes);
+    let tracks = sheet.target_count();
     if (track as usize) >= tracks {
         no_such(out, "no such track", ": the sheet has ", tracks);
         return;
     }
-    let row = sheet::target_row(sheet.bytes, track as usize);
-    let animation = sheet::content_row(sheet.bytes, row.content).animation;
+    let row = sheet.target(track as usize);
+    let animation = sheet.content(row.content).animation;
     if animation == (active as usize) {
         no_key(out, track, row.count);
     } else {
@@ -60,88 +63,102 @@ fn no_track(out: &mut Out, active: u16, track: u16, sheet: Sheet<'_>) {
     }
 }
 
-fn no_pane(out: &mut Out, pane: u16, book: Book<'_>) {
-    let panes = book::pane_count(book.bytes);
-    if (pane as usize) >= panes {
-        no_such(out, "no such pane", ": the book has ", panes);
+// `part` is the name of what a row of `rows` has `n` of.
+fn no_part(out: &mut Out, owner: Owner, row: u16, book: Book<'_>, part: &str, n: usize) {
+    let (rows, thing, one) = match owner {
+        Owner::Pane => (book.pane_count(), "no such pane", ": a pane has "),
+        Owner::Material => (
+            book.material_count(),
+            "no such material",
+            ": a material has ",
+        ),
+    };
+    if (row as usize) >= rows {
+        no_such(out, thing, ": the book has ", rows);
     } else {
-        no_such(
-            out,
-            "no such channel",
-            ": a pane has ",
-            channel::PANE_CHANNELS,
-        );
+        no_such(out, part, one, n);
     }
 }
 
-// `part` is the name of what a material has `n` of.
-fn no_material(out: &mut Out, material: u16, book: Book<'_>, part: &str, n: usize) {
-    let materials = book::material_count(book.bytes);
-    if (material as usize) >= materials {
-        no_such(out, "no such material", ": the book has ", materials);
-    } else {
-        no_such(out, part, ": a material has ", n);
-    }
+fn no_channel(out: &mut Out, owner: Owner, row: u16, book: Book<'_>) {
+    let channels = match owner {
+        Owner::Pane => channel::PANE_CHANNELS,
+        Owner::Material => channel::MATERIAL_CHANNELS,
+    };
+    no_part(out, owner, row, book, "no such channel", channels);
+}
+
+fn no_layer(out: &mut Out, material: u16, book: Book<'_>) {
+    let layers = channel::MATERIAL_LAYERS;
+    no_part(
+        out,
+        Owner::Material,
+        material,
+        book,
+        "no such layer",
+        layers,
+    );
 }
 
 // Row 7: what there isn't.
-fn none_such(out: &mut Out, active: u16, c: Call, files: Files<'_>) {
-    match c.verb {
-        Verb::ReadPane | Verb::ResolvePane => no_pane(out, c.first, files.book),
-        Verb::ReadMaterial => no_material(
-            out,
-            c.first,
-            files.book,
-            "no such channel",
-            channel::MATERIAL_CHANNELS,
-        ),
-        Verb::ResolveSrt | Verb::Name => no_material(
-            out,
-            c.first,
-            files.book,
-            "no such layer",
-            channel::MATERIAL_LAYERS,
-        ),
-        _ => no_track(out, active, c.first, files.sheet),
+fn none_such(out: &mut Out, active: u16, call: Call<'_>, files: Files<'_>) {
+    let Files { sheet, book } = files;
+    match call {
+        Call::Show(Query::Read { owner, row, .. }) => no_channel(out, owner, row, book),
+        Call::Show(Query::ResolvePane { pane }) => no_channel(out, Owner::Pane, pane, book),
+        Call::Show(Query::ResolveSrt { material, .. } | Query::Name { material, .. }) => {
+            no_layer(out, material, book);
+        }
+        Call::Make(
+            Action::Key { track, .. } | Action::Slope { track, .. } | Action::Open { track, .. },
+        ) => no_track(out, active, track, sheet),
+        _ => cli_printed::meaning(out, Refusal::NoSuchRow),
     }
 }
 
 // Row 8: which number is not finite.
-fn not_finite(c: Call) -> &'static str {
-    match c.verb {
-        Verb::Tick => {
+fn not_finite(call: Call<'_>) -> &'static str {
+    match call {
+        Call::Make(Action::Tick { .. }) => {
             "the seconds, the frames per second or the frame that they lead to is not finite"
         }
-        Verb::Slope => "the slope is not finite",
-        Verb::Pose => "the frame is not finite",
-        _ if !float::is_finite(c.x) => "the frame is not finite",
-        _ => "the value is not finite",
+        Call::Make(Action::Slope { .. }) => "the slope is not finite",
+        Call::Make(Action::Key { frame, .. } | Action::Drag { frame, .. }) if frame.is_finite() => {
+            "the value is not finite"
+        }
+        _ => "the frame is not finite",
     }
 }
 
-fn nothing_to_return(verb: Verb) -> &'static str {
-    match verb {
-        Verb::Undo => "nothing to undo",
+fn nothing_to_return(call: Call<'_>) -> &'static str {
+    match call {
+        Call::Make(Action::Undo) => "nothing to undo",
         _ => "nothing to redo",
     }
 }
 
-fn dragging(verb: Verb) -> &'static str {
-    match verb {
-        Verb::Drag | Verb::Drop | Verb::Abandon => "no drag is open",
+fn dragging(call: Call<'_>) -> &'static str {
+    match call {
+        Call::Make(Action::Drag { .. } | Action::Drop | Action::Abandon) => "no drag is open",
         _ => "a drag is open",
     }
 }
 
 // ` declined N: ` and why; `active` is the animation that is selected.
-pub fn say_declined(out: &mut Out, n: u8, active: u16, c: Call, files: Files<'_>) {
-    cli_printed::refused(out, " ", n);
-    match n {
-        NO_ANIMATION => no_animation(out, c, files.sheet),
-        NO_SUCH_ROW => none_such(out, active, c, files),
-        BAD_ARGUMENT => words(out, not_finite(c)),
-        NOTHING_TO_TAKE => words(out, nothing_to_return(c.verb)),
-        DRAG_STATE => words(out, dragging(c.verb)),
-        _ => cli_printed::meaning(out, n),
+pub fn say_declined(
+    out: &mut Out,
+    refusal: Refusal,
+    active: u16,
+    call: Call<'_>,
+    files: Files<'_>,
+) {
+    cli_printed::refused(out, " ", refusal);
+    match refusal {
+        Refusal::NoAnimation => no_animation(out, call, files.sheet),
+        Refusal::NoSuchRow => none_such(out, active, call, files),
+        Refusal::BadArgument => words(out, not_finite(call)),
+        Refusal::NothingToTake => words(out, nothing_to_return(call)),
+        Refusal::DragState => words(out, dragging(call)),
+        _ => cli_printed::meaning(out, refusal),
     }
 }

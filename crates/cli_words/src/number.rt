@@ -9,14 +9,6 @@ pub const TOO_LARGE: u64 = 16777216;
 // 2^32: no bit pattern is larger.
 const NO_PATTERN: u64 = 4294967296;
 
-const MINUS: u8 = 45;
-
-const POINT: u8 = 46;
-
-const ZERO: u8 = 48;
-
-const LOWER_X: u8 = 120;
-
 // The digits without the point; `scale` is 0 before the point, and then ten to the number of digits after it. No ghost field bounds them, since the definitions
 // speak of decimals that are too large as well.
 #[derive(Clone, Copy)]
@@ -84,8 +76,8 @@ impl Decimal {
         ensures below { IfSome result (λ d. (d.digits < too_large) × (d.scale < too_large) × (d ≡ decimal_after self b)) }
     {
         match (b, self.scale) {
-            (POINT, 0) => Some(Decimal { scale: 1, ..self }),
-            (POINT, _) => None,
+            (b'.', 0) => Some(Decimal { scale: 1, ..self }),
+            (b'.', _) => None,
             _ => {
                 let digits = digit_after(self.digits, b, 10, TOO_LARGE)?;
                 let scale = self.scale * 10;
@@ -96,6 +88,16 @@ impl Decimal {
                 }
             }
         }
+    }
+
+    // The digits over the scale, rounded once.
+    #[tactic(auto, using(std::proofs::lemmas::Bool::Decides::nat_tests), unfolding(crate::specs::Numbers::quotient_of))]
+    fn quotient(self) -> f32
+        requires { (self.digits < too_large) × (self.scale < too_large) }
+        ensures { result ≡ quotient_of self }
+    {
+        let n = std::num::nearest_u32_to_f32(self.digits as u32);
+        n / std::num::nearest_u32_to_f32(self.scale.max(1) as u32)
     }
 }
 
@@ -114,16 +116,6 @@ fn read_decimal(s: &[u8]) -> Option<Decimal>
     Some(d)
 }
 
-#[tactic(auto, using(std::proofs::lemmas::Bool::Decides::nat_tests), unfolding(crate::specs::Numbers::quotient_of))]
-fn quotient(d: Decimal) -> f32
-    requires { (d.digits < too_large) × (d.scale < too_large) }
-    ensures { result ≡ quotient_of d }
-{
-    let n = std::num::nearest_u32_to_f32(d.digits as u32);
-    let scale = if d.scale == 0 { 1 } else { d.scale as u32 };
-    n / std::num::nearest_u32_to_f32(scale)
-}
-
 #[tactic(auto, using(std::proofs::lemmas::Bool::Decides::nat_tests), unfolding(crate::specs::Numbers::unsigned_of))]
 fn unsigned(s: &[u8]) -> Option<f32>
     ensures { result ≡ unsigned_of s.now }
@@ -131,8 +123,7 @@ fn unsigned(s: &[u8]) -> Option<f32>
     if s.is_empty() || !is_digit(s[0]) || !is_digit(s[s.len() - 1]) {
         return None;
     }
-    let d = read_decimal(s)?;
-    Some(quotient(d))
+    read_decimal(s).map(|d| d.quotient())
 }
 
 // The decimal that s writes, as -12.375: its digits without the point below 2^24, rounded once.
@@ -140,11 +131,10 @@ fn unsigned(s: &[u8]) -> Option<f32>
 fn signed(s: &[u8]) -> Option<f32>
     ensures { result ≡ signed_of s.now }
 {
-    let (first, rest) = s.split_first()?;
-    if *first == MINUS {
-        unsigned(rest).map(|x| -x)
-    } else {
-        unsigned(s)
+    match s {
+        [] => None,
+        [b'-', rest @ ..] => unsigned(rest).map(|x| -x),
+        _ => unsigned(s),
     }
 }
 
@@ -160,11 +150,10 @@ pub fn pattern(v: u32) -> f32
 fn bits(s: &[u8]) -> Option<f32>
     ensures { result ≡ bits_of s.now }
 {
-    if s.len() != 10 || s[0] != ZERO || s[1] != LOWER_X {
-        return None;
+    match s {
+        [b'0', b'x', digits @ ..] if digits.len() == 8 => hexadecimal(digits).map(|v| pattern(v)),
+        _ => None,
     }
-    let v = hexadecimal(&s[2..])?;
-    Some(pattern(v))
 }
 
 // A number as a text has it: in decimal, or by its bits.

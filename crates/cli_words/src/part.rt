@@ -2,21 +2,9 @@
 ghost use Rattle.std.specs.Prelude.{◌<◌, ◌≤◌, length};
 ghost use Rattle.std.specs.Iterator.{at_most};
 
-const TAB: u8 = 9;
-
-const LINE_END: u8 = 10;
-
-const RETURN: u8 = 13;
-
-const SPACE: u8 = 32;
-
-const QUOTE: u8 = 34;
-
-const COMMENT: u8 = 35;
-
 // What stands between two words.
 fn is_gap(b: u8) -> bool {
-    matches!(b, SPACE | TAB | RETURN | LINE_END)
+    matches!(b, b' ' | b'\t' | b'\r' | b'\n')
 }
 
 // How many bytes the word has that a text begins with. In quotes it may have spaces, and ends behind the next quote.
@@ -24,16 +12,12 @@ fn word_len(text: &[u8]) -> usize
     requires { 0 < length text.now }
     ensures { (0 < result) × (result ≤ length text.now) }
 {
-    let (quoted, rest) = (text[0] == QUOTE, &text[1..]);
-    let end = if quoted {
-        rest.iter().position(|b| *b == QUOTE)
-    } else {
-        rest.iter().position(|b| is_gap(*b))
+    let rest = &text[1..];
+    let end = match text[0] {
+        b'"' => rest.iter().position(|b| *b == b'"').map(|n| n + 2),
+        _ => rest.iter().position(|b| is_gap(*b)).map(|n| n + 1),
     };
-    match end {
-        Some(n) => n + 1 + quoted as usize,
-        None => text.len(),
-    }
+    end.unwrap_or(text.len())
 }
 
 // The words of a line, in quotes where they have them, up to its comment: a word that begins with #.
@@ -50,7 +34,7 @@ impl<'a> Iterator for Words<'a> {
     fn next(&mut self) -> Option<&'a [u8]> {
         let start = self.rest.iter().position(|b| !is_gap(*b))?;
         let text = &self.rest[start..];
-        if text[0] == COMMENT {
+        if text[0] == b'#' {
             return None;
         }
         let (word, rest) = text.split_at(word_len(text));
@@ -71,14 +55,14 @@ pub fn word<'a>(line: &'a [u8], k: usize) -> Option<&'a [u8]> {
 }
 
 pub fn is_quoted(w: &[u8]) -> bool {
-    w.first() == Some(&QUOTE)
+    w.starts_with(b"\"")
 }
 
 // A word without its quotes.
 pub fn unquoted<'a>(w: &'a [u8]) -> &'a [u8] {
-    match w.strip_prefix(&[QUOTE]) {
-        Some(text) => text.strip_suffix(&[QUOTE]).unwrap_or(text),
-        None => w,
+    match w {
+        [b'"', text @ .., b'"'] | [b'"', text @ ..] => text,
+        _ => w,
     }
 }
 

@@ -5,23 +5,23 @@ ghost use Rattle.laws.specs.Rows.{declines};
 ghost use Rattle.corner.specs.Declined.{finite4, rotation_rows, corners_table, translate_table, rotate_table};
 
 use crate::points::Corners;
-use float::{Vector2, Vector3, angle_passes, is_finite2, is_finite3};
+use float::{Vector2, Vector3, angle_passes};
 use laws::{Refusal, ask};
 
 fn is_finite4(c: Corners) -> bool
     ensures { result ≡ finite4 c }
 {
-    is_finite2(c.topleft)
-        & is_finite2(c.topright)
-        & is_finite2(c.bottomleft)
-        & is_finite2(c.bottomright)
+    c.topleft.is_finite()
+        & c.topright.is_finite()
+        & c.bottomleft.is_finite()
+        & c.bottomright.is_finite()
 }
 
 #[tactic(auto, unfolding(crate::specs::Declined::rotation_rows, laws::specs::Rows::declines, laws::specs::Rows::unless))]
 fn check_rotation(rotation: Vector3) -> Result<(), Refusal>
     ensures { declined result ≡ declines (rotation_rows rotation) }
 {
-    ask(is_finite3(rotation), Refusal::BadArgument)?;
+    ask(rotation.is_finite(), Refusal::BadArgument)?;
     ask(angle_passes(rotation.x), Refusal::AngleTooLarge)?;
     ask(angle_passes(rotation.y), Refusal::AngleTooLarge)?;
     ask(angle_passes(rotation.z), Refusal::AngleTooLarge)
@@ -39,8 +39,8 @@ pub fn check_corners(
 {
     ask(origin_x <= 2, Refusal::NoSuchRow)?;
     ask(origin_y <= 2, Refusal::NoSuchRow)?;
-    ask(is_finite2(center), Refusal::BadArgument)?;
-    ask(is_finite2(size), Refusal::BadArgument)?;
+    ask(center.is_finite(), Refusal::BadArgument)?;
+    ask(size.is_finite(), Refusal::BadArgument)?;
     check_rotation(rotation)
 }
 
@@ -49,14 +49,14 @@ pub fn check_translate(corners: Corners, delta: Vector2) -> Result<(), Refusal>
     ensures { declined result ≡ declines (translate_table corners delta) }
 {
     ask(is_finite4(corners), Refusal::BadArgument)?;
-    ask(is_finite2(delta), Refusal::BadArgument)
+    ask(delta.is_finite(), Refusal::BadArgument)
 }
 
 #[tactic(auto, unfolding(crate::specs::Declined::rotate_table, laws::specs::Rows::declines, laws::specs::Rows::unless))]
 pub fn check_rotate(point: Vector2, center: Vector2, rotation: Vector3) -> Result<(), Refusal>
     ensures { declined result ≡ declines (rotate_table point center rotation) }
 {
-    ask(is_finite2(point), Refusal::BadArgument)?;
-    ask(is_finite2(center), Refusal::BadArgument)?;
+    ask(point.is_finite(), Refusal::BadArgument)?;
+    ask(center.is_finite(), Refusal::BadArgument)?;
     check_rotation(rotation)
 }

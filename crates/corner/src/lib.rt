@@ -1,6 +1,7 @@
 // Corners (document 01, "UVs and corners"), as the Rust's pane_tree.rs has them.
 // The calls from outside are `corners`, `translate` and `rotate_point`. None asks anything of its arguments: each answers a refusal's number, 0 for
 // none, and on a refusal +0 throughout.
+// Stays a number, the refusal in each answer: C reads it.
 #![tactic(auto)]
 
 mod checks;

@@ -3,7 +3,7 @@ ghost use Rattle.std.specs.Prelude.{◌≡◌};
 ghost use Rattle.corner.specs.Corners.{turn_back, turned, rotated, start_of, corners_of, translated};
 ghost use Rattle.corner.specs.Turns.{turns_of, rotated_by};
 
-use float::{SinCos, Vector2, Vector3, add};
+use float::{SinCos, Vector2, Vector3};
 
 #[repr(C)]
 #[derive(Clone, Copy)]
@@ -67,13 +67,13 @@ fn rotate_by(point: Vector2, center: Vector2, turns: Option<Turns>) -> Vector2
     ensures { result ≡ rotated_by point center turns }
 {
     match turns {
-        None => add(center, point),
+        None => center + point,
         Some(t) => turn(point, center, t),
     }
 }
 
 // Where a pane of this size starts, counted from its pivot: origin 0 is the centre, 1 left or top, 2 right or bottom.
-// The origin stays a number: C hands it in, and its row of the table is its only test.
+// Stays a number, `origin`: C hands it in, and its row of the table is its only test.
 #[tactic(auto, unfolding(crate::specs::Corners::start_of))]
 fn start(size: f32, origin: u8) -> f32
     ensures { result ≡ start_of size origin }
@@ -123,10 +123,10 @@ impl Corners {
         ensures { result ≡ translated self delta }
     {
         Corners {
-            topleft: add(self.topleft, delta),
-            topright: add(self.topright, delta),
-            bottomleft: add(self.bottomleft, delta),
-            bottomright: add(self.bottomright, delta),
+            topleft: self.topleft + delta,
+            topright: self.topright + delta,
+            bottomleft: self.bottomleft + delta,
+            bottomright: self.bottomright + delta,
         }
     }
 }

@@ -2,7 +2,7 @@
 ghost use Rattle.std.specs.Prelude.{◌≡◌, length};
 
 use crate::kind::Kind;
-use crate::{Key, count_before, part, span};
+use crate::{Key, count_before, key_at, part, span};
 
 // The keys, to read.
 #[derive(Clone, Copy)]
@@ -28,9 +28,10 @@ impl<'a> Keys<'a> {
     ghost use Rattle.std.specs.Prelude.{◌≡◌, ◌+◌, ◌-◌, ◌<◌, ◌≤◌, ◌↔◌, length, true, IsSome, IfSome};
     ghost use Rattle.float.specs.Rising.{rising};
     ghost use Rattle.curve.specs.Keys.{part_of, key_at, before};
-    ghost use Rattle.curve.specs.Curve.{Ordered, kind_hermite, eval_hermite, eval_curve};
+    ghost use Rattle.curve.specs.Curve.{Ordered, kind_hermite, eval_hermite, eval_curve, eval_curve_step_u16};
     ghost use Rattle.curve.specs.Kind.{number};
 
+    // Stays over three slices: C lends them apart.
     pub fn new(frames: &'a [f32], values: &'a [f32], slopes: &'a [f32]) -> Option<Keys<'a>>
         ensures same_length { IsSome result ↔ ((length values.now ≡ length frames.now) × (length slopes.now ≡ length frames.now)) }
         ensures frames { IfSome result (λ k. k.frames.now ≡ frames.now) }
@@ -58,7 +59,7 @@ impl<'a> Keys<'a> {
         requires { i < length self.now.frames.now }
         ensures { result ≡ key_at self.now.frames.now self.now.values.now self.now.slopes.now i }
     {
-        crate::key_at(self.frames, self.values, self.slopes, i)
+        key_at(self.frames, self.values, self.slopes, i)
     }
 
     // The keys that one target's curve owns.
@@ -89,17 +90,18 @@ impl<'a> Keys<'a> {
         if self.frames[last] <= x {
             return self.values[last];
         }
-        let n = count_before(self.frames, x);
-        // x is a NaN
-        if n == 0 {
-            return self.values[0];
+        match count_before(self.frames, x) {
+            // x is a NaN
+            0 => self.values[0],
+            n => span(self.key(n - 1), self.key(n), x),
         }
-        span(self.key(n - 1), self.key(n), x)
     }
 
-    // The Rust's eval_curve: what a curve of this kind, with these keys, gives at x.
+    // The Rust's eval_curve: what a curve of this kind, with these keys, gives at x. Inlined: a call would put the three slices into memory, and cost a
+    // row of readings a sixth more instructions.
     #[tactic(auto, using(crate::specs::Before::before_len), unfolding(crate::specs::Curve::eval_curve))]
-    pub fn value(&self, kind: Kind, x: f32) -> f32
+    #[inline(always)]
+    pub fn eval_curve(&self, kind: Kind, x: f32) -> f32
         requires { Ordered (number kind) self.now.frames.now }
         ensures { result ≡ eval_curve (number kind) self.now.frames.now self.now.values.now self.now.slopes.now x }
     {
@@ -113,25 +115,12 @@ impl<'a> Keys<'a> {
             Kind::Hermite => self.eval_hermite(x),
         }
     }
-}
 
-impl<'a> KeysMut<'a> {
-    ghost use Rattle.std.specs.Prelude.{◌≡◌, ◌<◌, length, set};
-
-    // The last thing that is done with the lent keys.
-    pub fn put(self, i: usize, key: Key)
-        requires { i < length self.frames.now }
-        ensures frames { self.exit.0.now ≡ set self.entry.frames.now i key.frame }
-        ensures values { self.exit.1.0.now ≡ set self.entry.values.now i key.value }
-        ensures slopes { self.exit.1.1.0.now ≡ set self.entry.slopes.now i key.slope }
+    // The Rust's eval_curve_step_u16. A Step value is whole, so its cut is the value itself.
+    pub fn eval_curve_step_u16(&self, kind: Kind, x: f32) -> u16
+        requires { Ordered (number kind) self.now.frames.now }
+        ensures { result ≡ eval_curve_step_u16 (number kind) self.now.frames.now self.now.values.now self.now.slopes.now x }
     {
-        let KeysMut {
-            frames,
-            values,
-            slopes,
-        } = self;
-        frames[i] = key.frame;
-        values[i] = key.value;
-        slopes[i] = key.slope;
+        float::cut_u16(self.eval_curve(kind, x))
     }
 }

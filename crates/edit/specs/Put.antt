@@ -172,6 +172,14 @@ ready_inside {s} {fs} w c track key e =
       after = λ m. omega (arith, ltb-true (key + 1) (target_row s track).count m, n, c.frames);
     }
 
+-- the same of all three lists
+pub ready_inside_all : {s : List ℕ} {fs vs ss : List Float} → Checked s → KeysChecked s fs vs ss → (track key : ℕ) → has_key s track key ≡ true → InsideAll fs vs ss (spot_of s track key)
+unfolding spot_of place
+ready_inside_all {s} w c track key e =
+    let h = has_key_lem s track key e in
+    let n = target_keys w track h.0 in
+    record { frames = ready_inside w c track key e; values = omega (arith, n, h.1, c.values); slopes = omega (arith, n, h.1, c.slopes) }
+
 -- ---- the keys of a sheet, with x put at a track's key
 module _ {s : List ℕ} (w : Checked s) (ks : Keys) (ok : keys_ok_of s ks ≡ true) (track key : ℕ) (lt : track < target_count s) (lk : key < (target_row s track).count) where
   c : KeysChecked s ks.frames ks.values ks.slopes

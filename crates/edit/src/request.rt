@@ -17,6 +17,7 @@ pub enum Request {
 }
 
 // Rows 6, 15 and 7: something is active, no drag is open, and the track is the active animation's and has the key.
+// Stays a number in `selection`, NONE for none: C's player has it so.
 #[tactic(auto, unfolding(crate::specs::Edit::track_rows, laws::specs::Rows::declines, laws::specs::Rows::unless))]
 pub fn check_track(
     sheet: &Sheet,

@@ -7,8 +7,8 @@ ghost use Rattle.edit.specs.Edit.{has_key, spot_of, key_in};
 use curve::Kind;
 use sheet::Sheet;
 
-// Where a track's key is: its curve, by the number in the sheet's row, which the definitions go by; its place among all keys, its number in the track, and
-// whether a key of the track comes next.
+// Where a track's key is: its curve, its place among all keys, its number in the track, and whether a key of the track comes next.
+// Stays a number in `curve`: the sheet's row has it, and the definitions go by it.
 #[derive(Clone, Copy)]
 pub struct Spot {
     pub curve: usize,

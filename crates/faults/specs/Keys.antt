@@ -1,7 +1,7 @@
 -- The key rules of a sheet's own keys (document 01, "Sheet and book") as a list of tests: first that every key's numbers are finite, track by track, then the
 -- curves' rules, track by track. Definitions, and the law that all of them hold exactly where the key rules do, of a checked sheet.
 use Prim.Native.Nat.{ℕ, zero, suc, ◌+◌, ◌-◌, ◌*◌, ◌<◌}
-use Rattle.std.specs.Prelude.{List, [], ◌∷◌, ◌++◌, Bool, true, false, cond, ◌&&◌, ◌≡◌, eqb, Ok}
+use Rattle.std.specs.Prelude.{List, [], ◌∷◌, ◌++◌, Bool, true, false, cond, ◌&&◌, ◌≡◌, eqb, Option, Some, None, Ok}
 use Rattle.std.proofs.Math.Path.{refl, sym}
 use Rattle.std.proofs.Common.{◌∙◌, arith}
 use borrow.Author.Tests.{eqb-true, ne_eqb}
@@ -20,11 +20,12 @@ use Rattle.sheet.specs.Checked.{Checked, target_first, target_keys}
 use Rattle.curve.specs.Curve.{kind_constant, kind_step}
 use Rattle.keys.specs.Rules.{finite_key, key_rule, key_ok, track_ok, key_rules, curve_by_key}
 use Rattle.keys.specs.Stored.{stored_frames, stored_values, stored_slopes, finite_stored, key_stored, Stored}
-use Rattle.faults.specs.declared.fault.Fault.{Fault}
-use Rattle.faults.specs.Rules.{frame_finite, value_finite, slope_finite, constant_frame, constant_slope, step_slope, step_value, frame_order}
+use Rattle.faults.specs.declared.rules.Rule.{Rule}
+use Rattle.faults.specs.declared.rules.Rule.TheVariants as rule
+use Rattle.faults.specs.declared.fault.Part.{Part}
+use Rattle.faults.specs.declared.fault.Part.TheVariants as part
 use Rattle.curve.specs.Kind.{number, kind_of}
-use Rattle.faults.specs.Verdict.{verdict, told, told_is, accepts}
-use Rattle.faults.specs.Tests.{Test, ask_key, fault_of, all_hold, numbered, each_below, Tells, and_assoc, and_unit, hold_join, hold_each, number_join, number_each, held_join, failed_join, zero_held, other_failed, tells}
+use Rattle.faults.specs.Tests.{Told, Test, ask_float, verdict, all_hold, each_below, Tells, and_assoc, and_unit, hold_join, hold_each, held_join, failed_join, accepts, other_failed, tells}
 
 -- where frame, value and slope of the sheet's key k are
 abbrev pub frame_at : List ℕ → ℕ → ℕ
@@ -36,47 +37,48 @@ value_at s k = points_at s + k * 8
 abbrev pub slope_at : List ℕ → ℕ → ℕ
 slope_at s k = points_at s + 4 + k * 8
 
--- a rule on the f32 at `at`, of key i of track t; `wants` are the bits that it is held against
-abbrev pub ask_float : List ℕ → ℕ → Bool → ℕ → ℕ → ℕ → ℕ → Test
-ask_float s rule holds t i at wants = ask_key rule holds t i at (u32_at s at) wants
+-- a rule on the f32 at `at`, of the key p of a track; `wants` are the bits that it is held against
+abbrev pub ask_at : List ℕ → Rule → Bool → Part → ℕ → Option ℕ → Test
+ask_at s rule holds p at wants = ask_float rule holds p at (u32_at s at) wants
 
--- all finite: the sheet's key k, which is key i of track t
-unfoldable pub finite_asks : List ℕ → ℕ → ℕ → ℕ → List Test
-finite_asks s t i k =
-    ask_float s frame_finite (finite_at s (frame_at s k)) t i (frame_at s k) 0
-    ∷ ask_float s value_finite (finite_at s (value_at s k)) t i (value_at s k) 0
-    ∷ ask_float s slope_finite (finite_at s (slope_at s k)) t i (slope_at s k) 0 ∷ []
+-- all finite: the sheet's key k, which is the key p of a track
+unfoldable pub finite_asks : List ℕ → Part → ℕ → List Test
+finite_asks s p k =
+    ask_at s rule.FrameFinite (finite_at s (frame_at s k)) p (frame_at s k) None
+    ∷ ask_at s rule.ValueFinite (finite_at s (value_at s k)) p (value_at s k) None
+    ∷ ask_at s rule.SlopeFinite (finite_at s (slope_at s k)) p (slope_at s k) None ∷ []
 
 -- Constant: frame and slope are +0
-unfoldable pub constant_asks : List ℕ → ℕ → ℕ → ℕ → List Test
-constant_asks s t i k =
-    ask_float s constant_frame (same_bits (float_at s (frame_at s k)) zero') t i (frame_at s k) 0
-    ∷ ask_float s constant_slope (same_bits (float_at s (slope_at s k)) zero') t i (slope_at s k) 0 ∷ []
+unfoldable pub constant_asks : List ℕ → Part → ℕ → List Test
+constant_asks s p k =
+    ask_at s rule.ConstantFrame (same_bits (float_at s (frame_at s k)) zero') p (frame_at s k) None
+    ∷ ask_at s rule.ConstantSlope (same_bits (float_at s (slope_at s k)) zero') p (slope_at s k) None ∷ []
 
 -- Step and Hermite: the frame is not below that of the key `last` before it (its own, if it is its curve's first)
-unfoldable pub order_asks : List ℕ → ℕ → ℕ → ℕ → ℕ → List Test
-order_asks s t i k last = ask_float s frame_order (le (float_at s (frame_at s last)) (float_at s (frame_at s k))) t i (frame_at s k) (u32_at s (frame_at s last)) ∷ []
+unfoldable pub order_asks : List ℕ → Part → ℕ → ℕ → List Test
+order_asks s p k last =
+    ask_at s rule.FrameOrder (le (float_at s (frame_at s last)) (float_at s (frame_at s k))) p (frame_at s k) (Some (u32_at s (frame_at s last))) ∷ []
 
 -- Step: slope +0, value whole in 0..65,535, not -0
-unfoldable pub step_asks : List ℕ → ℕ → ℕ → ℕ → ℕ → List Test
-step_asks s t i k last =
-    ask_float s step_slope (same_bits (float_at s (slope_at s k)) zero') t i (slope_at s k) 0
-    ∷ ask_float s step_value (whole_in16 (float_at s (value_at s k))) t i (value_at s k) 0
-    ∷ order_asks s t i k last
+unfoldable pub step_asks : List ℕ → Part → ℕ → ℕ → List Test
+step_asks s p k last =
+    ask_at s rule.StepSlope (same_bits (float_at s (slope_at s k)) zero') p (slope_at s k) None
+    ∷ ask_at s rule.StepValue (whole_in16 (float_at s (value_at s k))) p (value_at s k) None
+    ∷ order_asks s p k last
 
 -- by its curve
-unfoldable pub curve_asks : List ℕ → ℕ → ℕ → ℕ → ℕ → ℕ → List Test
-curve_asks s curve t i k last =
-    cond (eqb curve kind_constant) (constant_asks s t i k)
-    (cond (eqb curve kind_step) (step_asks s t i k last)
-    (order_asks s t i k last))
+unfoldable pub curve_asks : List ℕ → ℕ → Part → ℕ → ℕ → List Test
+curve_asks s curve p k last =
+    cond (eqb curve kind_constant) (constant_asks s p k)
+    (cond (eqb curve kind_step) (step_asks s p k last)
+    (order_asks s p k last))
 
 -- key i of track t
 unfoldable pub finite_tests : List ℕ → ℕ → ℕ → List Test
-finite_tests s t i = finite_asks s t i ((target_row s t).first + i)
+finite_tests s t i = finite_asks s (part.Key t i) ((target_row s t).first + i)
 
 unfoldable pub curve_tests : List ℕ → ℕ → ℕ → List Test
-curve_tests s t i = curve_asks s (target_row s t).curve t i ((target_row s t).first + i) ((target_row s t).first + (i - 1))
+curve_tests s t i = curve_asks s (target_row s t).curve (part.Key t i) ((target_row s t).first + i) ((target_row s t).first + (i - 1))
 
 -- the keys of track t
 unfoldable pub finite_track : List ℕ → ℕ → List Test
@@ -87,42 +89,6 @@ curve_track s t = each_below (target_row s t).count (curve_tests s t)
 
 unfoldable pub keys_tests : List ℕ → List Test
 keys_tests s = each_below (target_count s) (finite_track s) ++ each_below (target_count s) (curve_track s)
-
--- ---- no rule has the number 0
-
-pub finite_numbered : (s : List ℕ) (t i : ℕ) → numbered (finite_tests s t i) ≡ true
-unfolding finite_tests finite_asks numbered
-finite_numbered s t i = refl
-
-pub curve_numbered : (s : List ℕ) (t i : ℕ) → numbered (curve_tests s t i) ≡ true
-unfolding curve_tests curve_asks constant_asks step_asks order_asks numbered
-curve_numbered s t i = go (eqb (target_row s t).curve kind_constant) (eqb (target_row s t).curve kind_step)
-  where
-    k : ℕ
-    k = (target_row s t).first + i
-
-    last : ℕ
-    last = (target_row s t).first + (i - 1)
-
-    go : (a b : Bool) → numbered (cond a (constant_asks s t i k) (cond b (step_asks s t i k last) (order_asks s t i k last))) ≡ true
-    go true b = refl
-    go false true = refl
-    go false false = refl
-
-pub finite_track_numbered : (s : List ℕ) (t : ℕ) → numbered (finite_track s t) ≡ true
-unfolding finite_track
-finite_track_numbered s t = number_each _ _ (finite_numbered s t)
-
-pub curve_track_numbered : (s : List ℕ) (t : ℕ) → numbered (curve_track s t) ≡ true
-unfolding curve_track
-curve_track_numbered s t = number_each _ _ (curve_numbered s t)
-
-pub finite_all_numbered : (s : List ℕ) → numbered (each_below (target_count s) (finite_track s)) ≡ true
-finite_all_numbered s = number_each _ _ (finite_track_numbered s)
-
-pub keys_numbered : (s : List ℕ) → numbered (keys_tests s) ≡ true
-unfolding keys_tests
-keys_numbered s = number_join (each_below (target_count s) (finite_track s)) _ (finite_all_numbered s) (number_each _ _ (curve_track_numbered s))
 
 -- ---- all tests hold exactly where the key rules do
 
@@ -159,7 +125,10 @@ module _ {s : List ℕ} (w : Checked s) where
         last : ℕ
         last = (target_row s t).first + (i - 1)
 
-        go : (a b : Bool) → all_hold (cond a (constant_asks s t i k) (cond b (step_asks s t i k last) (order_asks s t i k last))) ≡
+        p : Part
+        p = part.Key t i
+
+        go : (a b : Bool) → all_hold (cond a (constant_asks s p k) (cond b (step_asks s p k last) (order_asks s p k last))) ≡
             cond a (same_bits (float_at s (frame_at s k)) zero' && same_bits (float_at s (slope_at s k)) zero')
             (cond b (same_bits (float_at s (slope_at s k)) zero' && whole_in16 (float_at s (value_at s k)) && le (float_at s (frame_at s last)) (float_at s (frame_at s k)))
             (le (float_at s (frame_at s last)) (float_at s (frame_at s k))))
@@ -178,36 +147,29 @@ module _ {s : List ℕ} (w : Checked s) where
   unfolding keys_tests key_rules
   keys_hold = rw (hold_join, finite_all, hold_each _ (curve_track s), all_same (target_count s) _ _ curve_track_lem)
 
-  -- where none of the numbers is told, they can be read
-  pub keys_finite : verdict (each_below (target_count s) (finite_track s)) ≡ Ok tt → Stored s
-  keys_finite e = record { checked = w; numbers = sym finite_all ∙ accepts (each_below (target_count s) (finite_track s)) e }
-
-  pub keys_told : {r : Fault} → r ≡ told (verdict (keys_tests s)) → Tells (key_rules s (stored_frames s) (stored_values s) (stored_slopes s)) (keys_tests s) r
-  keys_told e = tells (keys_tests s) (keys_numbered s) keys_hold (e ∙ told_is (keys_tests s))
+  pub keys_told : {r : Told} → r ≡ verdict (keys_tests s) → Tells (key_rules s (stored_frames s) (stored_values s) (stored_slopes s)) (keys_tests s) r
+  keys_told e = tells (keys_tests s) keys_hold e
 
   -- ---- the answer, track by track
 
-  keys_tells : {r : Fault} → r ≡ fault_of (keys_tests s) → Tells (key_rules s (stored_frames s) (stored_values s) (stored_slopes s)) (keys_tests s) r
-  keys_tells e = tells (keys_tests s) (keys_numbered s) keys_hold e
-
-  module _ {f : Fault} (e : f ≡ fault_of (each_below (target_count s) (finite_track s))) where
+  module _ {f : Told} (e : f ≡ verdict (each_below (target_count s) (finite_track s))) where
     -- a number is not finite
-    pub keys_infinite : (f.rule ≡ 0 → ⊥) → Tells (key_rules s (stored_frames s) (stored_values s) (stored_slopes s)) (keys_tests s) f
+    pub keys_infinite : (f ≡ Ok tt → ⊥) → Tells (key_rules s (stored_frames s) (stored_values s) (stored_slopes s)) (keys_tests s) f
     unfolding keys_tests
-    keys_infinite n = keys_tells (e ∙ sym (failed_join (each_below (target_count s) (finite_track s)) _ (other_failed (each_below (target_count s) (finite_track s)) e n)))
+    keys_infinite n = keys_told (e ∙ sym (failed_join (each_below (target_count s) (finite_track s)) _ (other_failed _ (λ z. n (e ∙ z)))))
 
     -- all are, so they can be read
-    pub keys_stored : f.rule ≡ 0 → Stored s
-    keys_stored z = record { checked = w; numbers = sym finite_all ∙ zero_held _ (finite_all_numbered s) e z }
+    pub keys_finite : f ≡ Ok tt → Stored s
+    keys_finite z = record { checked = w; numbers = sym finite_all ∙ accepts _ (sym e ∙ z) }
 
     -- and the curves' rules decide
-    pub keys_curves : {r : Fault} → f.rule ≡ 0 → r ≡ fault_of (each_below (target_count s) (curve_track s)) → Tells (key_rules s (stored_frames s) (stored_values s) (stored_slopes s)) (keys_tests s) r
+    pub keys_curves : {r : Told} → f ≡ Ok tt → r ≡ verdict (each_below (target_count s) (curve_track s)) → Tells (key_rules s (stored_frames s) (stored_values s) (stored_slopes s)) (keys_tests s) r
     unfolding keys_tests
-    keys_curves z q = keys_tells (q ∙ sym (held_join (each_below (target_count s) (finite_track s)) _ (zero_held _ (finite_all_numbered s) e z)))
+    keys_curves z q = keys_told (q ∙ sym (held_join (each_below (target_count s) (finite_track s)) _ (accepts _ (sym e ∙ z))))
 
 -- a curve's rules by its kind are those by the kind's number
-pub curve_asks_kind : (s : List ℕ) (n t i k last : ℕ) → curve_asks s (number (kind_of n)) t i k last ≡ curve_asks s n t i k last
+pub curve_asks_kind : (s : List ℕ) (n : ℕ) (p : Part) (k last : ℕ) → curve_asks s (number (kind_of n)) p k last ≡ curve_asks s n p k last
 unfolding curve_asks
-curve_asks_kind s zero t i k last = refl
-curve_asks_kind s (suc zero) t i k last = refl
-curve_asks_kind s (suc (suc n)) t i k last = rw (ne_eqb (suc (suc n)) 0 (λ e. omega arith), ne_eqb (suc (suc n)) 1 (λ e. omega arith))
+curve_asks_kind s zero p k last = refl
+curve_asks_kind s (suc zero) p k last = refl
+curve_asks_kind s (suc (suc n)) p k last = rw (ne_eqb (suc (suc n)) 0 (λ e. omega arith), ne_eqb (suc (suc n)) 1 (λ e. omega arith))

@@ -1,5 +1,4 @@
 -- The rules of a sheet, of a book and of stored keys as lists of tests, and the first that is broken.
-pub mod Rules
 pub mod Tests
 pub mod Verdict
 pub mod Loops

@@ -1,6 +1,6 @@
 -- The rules of a sheet's layout (document 01, "Sheet and book") as a list of tests, in the order of the definition `sheet_ok`. Definitions, and the law that
 -- all of them hold exactly where the sheet keeps its layout.
-use Rattle.std.specs.Prelude.{ℕ, ◌+◌, ◌-◌, ◌*◌, ◌<◌, ◌≤◌, List, [], ◌∷◌, ◌++◌, Bool, true, false, ◌&&◌, ◌||◌, ◌≡◌, refl, length, leb, ltb, eqb, Ok, Err}
+use Rattle.std.specs.Prelude.{ℕ, ◌+◌, ◌-◌, ◌*◌, ◌<◌, ◌≤◌, List, [], ◌∷◌, ◌++◌, Bool, true, false, ◌&&◌, ◌||◌, ◌≡◌, refl, length, leb, ltb, eqb, Some, None, Ok, Err}
 use Rattle.std.proofs.Common.{sym, ◌∙◌, le-leb, eq-eqb, ne_eqb}
 use Rattle.std.proofs.lemmas.Bool.{lt-leb}
 use Rattle.laws.specs.Below.{all_below, all_of, all_same}
@@ -11,29 +11,30 @@ use Rattle.sheet.specs.Sizes.{animation_count, content_count, target_count, key_
 use Rattle.sheet.specs.Sheet.{sizes_ok, length_ok, animation_ok, content_ok, keys_of, target_from, target_ok, targets_ok, sheet_ok}
 use Rattle.sheet.specs.Checked.{Checked, checked}
 use Rattle.faults.specs.declared.fault.Fault.{Fault}
-use Rattle.faults.specs.Verdict.{verdict, told, told_is, accepts, first_tells, each_tells}
-use Rattle.faults.specs.Rules.{sheet_short, animations_range, contents_range, targets_range, keys_range, textures_range, head_zero, sheet_length, looping, next_present, next_absent, content_type, content_zero, content_animation, content_order, target_curve, target_zero, target_content, target_order, first_key, count_sum}
-use Rattle.faults.specs.Tests.{Test, fault, ask, fault_of, all_hold, numbered, each_below, or_else, Tells, and_assoc, and_unit, hold_join, hold_each, number_join, number_each, held_join, failed_join, zero_held, other_failed, fault_join, tells}
+use Rattle.faults.specs.Verdict.{first_tells, each_tells}
+use Rattle.faults.specs.declared.rules.Rule.TheVariants as rule
+use Rattle.faults.specs.declared.fault.Part.TheVariants as part
+use Rattle.faults.specs.Tests.{Told, Test, fault, ask, verdict, all_hold, each_below, or_else, Tells, and_assoc, and_unit, hold_join, hold_each, held_join, failed_join, accepts, other_failed, fault_join, tells}
 
 -- the sizes, each in its range, and zero
 unfoldable pub size_tests : List ℕ → List Test
 size_tests s =
-    ask animations_range (leb 1 (animation_count s) && leb (animation_count s) 8) 0 0 (animation_count s) 0
-    ∷ ask contents_range (leb (content_count s) 64) 0 2 (content_count s) 0
-    ∷ ask targets_range (leb (target_count s) 256) 0 4 (target_count s) 0
-    ∷ ask keys_range (leb (key_count s) 2048) 0 6 (key_count s) 0
-    ∷ ask textures_range (leb (texture_count s) 64) 0 8 (texture_count s) 0
-    ∷ ask head_zero (eqb (u16_at s 10) 0) 0 10 (u16_at s 10) 0 ∷ []
+    ask rule.AnimationsRange (leb 1 (animation_count s) && leb (animation_count s) 8) part.Whole 0 (animation_count s) None
+    ∷ ask rule.ContentsRange (leb (content_count s) 64) part.Whole 2 (content_count s) None
+    ∷ ask rule.TargetsRange (leb (target_count s) 256) part.Whole 4 (target_count s) None
+    ∷ ask rule.KeysRange (leb (key_count s) 2048) part.Whole 6 (key_count s) None
+    ∷ ask rule.TexturesRange (leb (texture_count s) 64) part.Whole 8 (texture_count s) None
+    ∷ ask rule.HeadZero (eqb (u16_at s 10) 0) part.Whole 10 (u16_at s 10) None ∷ []
 
 -- byte k of the next name of animation i, which is at `at`: zero where next is absent
 unfoldable pub next_test : List ℕ → ℕ → ℕ → ℕ → ℕ → List Test
-next_test s i next at k = ask next_absent (eqb next 1 || zero_byte s at k) i (at + k) (byte_at s (at + k)) 0 ∷ []
+next_test s i next at k = ask rule.NextAbsent (eqb next 1 || zero_byte s at k) (part.Row i) (at + k) (byte_at s (at + k)) None ∷ []
 
 -- animation i, whose row is at `at`: looping, next present, next name
 abbrev animation_asks : List ℕ → ℕ → ℕ → List Test
 animation_asks s i at =
-    ask looping (leb (byte_at s (at + 2)) 1) i (at + 2) (byte_at s (at + 2)) 0
-    ∷ ask next_present (leb (byte_at s (at + 3)) 1) i (at + 3) (byte_at s (at + 3)) 0
+    ask rule.Looping (leb (byte_at s (at + 2)) 1) (part.Row i) (at + 2) (byte_at s (at + 2)) None
+    ∷ ask rule.NextPresent (leb (byte_at s (at + 3)) 1) (part.Row i) (at + 3) (byte_at s (at + 3)) None
     ∷ each_below name_bytes (next_test s i (byte_at s (at + 3)) (at + row_name))
 
 unfoldable pub animation_tests : List ℕ → ℕ → List Test
@@ -42,10 +43,10 @@ animation_tests s i = animation_asks s i (animations_at + i * animation_bytes)
 -- content i, whose row is at `at` and the row before it at `last`, where there are a animations: type, zero, animation below a, and not below the row before's
 abbrev content_asks : List ℕ → ℕ → ℕ → ℕ → ℕ → List Test
 content_asks s a i at last =
-    ask content_type (leb (byte_at s (at + 1)) 4) i (at + 1) (byte_at s (at + 1)) 0
-    ∷ ask content_zero (eqb (u16_at s (at + 2)) 0) i (at + 2) (u16_at s (at + 2)) 0
-    ∷ ask content_animation (ltb (byte_at s at) a) i at (byte_at s at) a
-    ∷ ask content_order (leb (byte_at s last) (byte_at s at)) i at (byte_at s at) (byte_at s last) ∷ []
+    ask rule.ContentType (leb (byte_at s (at + 1)) 4) (part.Row i) (at + 1) (byte_at s (at + 1)) None
+    ∷ ask rule.ContentZero (eqb (u16_at s (at + 2)) 0) (part.Row i) (at + 2) (u16_at s (at + 2)) None
+    ∷ ask rule.ContentAnimation (ltb (byte_at s at) a) (part.Row i) at (byte_at s at) (Some a)
+    ∷ ask rule.ContentOrder (leb (byte_at s last) (byte_at s at)) (part.Row i) at (byte_at s at) (Some (byte_at s last)) ∷ []
 
 unfoldable pub content_tests : List ℕ → ℕ → ℕ → ℕ → List Test
 content_tests s base a i = content_asks s a i (base + i * content_bytes) (base + (i - 1) * content_bytes)
@@ -54,11 +55,11 @@ content_tests s base a i = content_asks s a i (base + i * content_bytes) (base +
 -- not below the row before's, first key f
 abbrev target_asks : List ℕ → ℕ → ℕ → ℕ → ℕ → ℕ → List Test
 target_asks s c i f at last =
-    ask target_curve (leb (byte_at s (at + 8)) 2) i (at + 8) (byte_at s (at + 8)) 0
-    ∷ ask target_zero (eqb (byte_at s (at + 9)) 0) i (at + 9) (byte_at s (at + 9)) 0
-    ∷ ask target_content (ltb (u16_at s at) c) i at (u16_at s at) c
-    ∷ ask target_order (leb (u16_at s last) (u16_at s at)) i at (u16_at s at) (u16_at s last)
-    ∷ ask first_key (eqb (u16_at s (at + 10)) f) i (at + 10) (u16_at s (at + 10)) f ∷ []
+    ask rule.TargetCurve (leb (byte_at s (at + 8)) 2) (part.Row i) (at + 8) (byte_at s (at + 8)) None
+    ∷ ask rule.TargetZero (eqb (byte_at s (at + 9)) 0) (part.Row i) (at + 9) (byte_at s (at + 9)) None
+    ∷ ask rule.TargetContent (ltb (u16_at s at) c) (part.Row i) at (u16_at s at) (Some c)
+    ∷ ask rule.TargetOrder (leb (u16_at s last) (u16_at s at)) (part.Row i) at (u16_at s at) (Some (u16_at s last))
+    ∷ ask rule.FirstKey (eqb (u16_at s (at + 10)) f) (part.Row i) (at + 10) (u16_at s (at + 10)) (Some f) ∷ []
 
 unfoldable pub target_after : List ℕ → ℕ → ℕ → ℕ → ℕ → List Test
 target_after s base c i f = target_asks s c i f (base + i * target_bytes) (base + (i - 1) * target_bytes)
@@ -68,7 +69,7 @@ target_tests s base c i = target_after s base c i (sum_below i (keys_of s base))
 
 -- all n counts sum to k, the sheet's key count
 unfoldable pub count_test : List ℕ → ℕ → ℕ → ℕ → List Test
-count_test s base n k = ask count_sum (eqb (sum_below n (keys_of s base)) k) 0 6 k (sum_below n (keys_of s base)) ∷ []
+count_test s base n k = ask rule.CountSum (eqb (sum_below n (keys_of s base)) k) part.Whole 6 k (Some (sum_below n (keys_of s base))) ∷ []
 
 unfoldable pub targets_tests : List ℕ → ℕ → ℕ → ℕ → ℕ → List Test
 targets_tests s base c n k = each_below n (target_tests s base c) ++ count_test s base n k
@@ -82,44 +83,11 @@ row_tests s =
 
 -- the length is that of the sizes, and the rows follow
 unfoldable pub length_tests : List ℕ → List Test
-length_tests s = ask sheet_length (eqb (length s) (sheet_bytes s)) 0 (length s) (length s) (sheet_bytes s) ∷ row_tests s
+length_tests s = ask rule.SheetLength (eqb (length s) (sheet_bytes s)) part.Whole (length s) (length s) (Some (sheet_bytes s)) ∷ row_tests s
 
 -- the sizes are there, in their ranges, and the rest follows
 unfoldable pub sheet_tests : List ℕ → List Test
-sheet_tests s = ask sheet_short (leb head_bytes (length s)) 0 (length s) (length s) head_bytes ∷ (size_tests s ++ length_tests s)
-
--- ---- no rule has the number 0
-
-pub animation_numbered : (s : List ℕ) (i : ℕ) → numbered (animation_tests s i) ≡ true
-unfolding animation_tests numbered next_test
-animation_numbered s i = let at = animations_at + i * animation_bytes in number_each name_bytes (next_test s i (byte_at s (at + 3)) (at + row_name)) (λ k. refl)
-
-pub content_numbered : (s : List ℕ) (base a i : ℕ) → numbered (content_tests s base a i) ≡ true
-unfolding content_tests numbered
-content_numbered s base a i = refl
-
-pub target_numbered : (s : List ℕ) (base c i : ℕ) → numbered (target_tests s base c i) ≡ true
-unfolding target_tests target_after numbered
-target_numbered s base c i = refl
-
-pub targets_numbered : (s : List ℕ) (base c n k : ℕ) → numbered (targets_tests s base c n k) ≡ true
-unfolding targets_tests count_test numbered
-targets_numbered s base c n k = number_join (each_below n (target_tests s base c)) _ (number_each n _ (target_numbered s base c)) refl
-
-pub rows_numbered : (s : List ℕ) → numbered (row_tests s) ≡ true
-unfolding row_tests
-rows_numbered s =
-    number_join (each_below (animation_count s) (animation_tests s)) _ (number_each _ _ (animation_numbered s))
-    (number_join (each_below (content_count s) (content_tests s (contents_at s) (animation_count s))) _ (number_each _ _ (content_numbered s _ _))
-    (targets_numbered s _ _ _ _))
-
-pub sizes_numbered : (s : List ℕ) → numbered (size_tests s) ≡ true
-unfolding size_tests numbered
-sizes_numbered s = refl
-
-pub sheet_numbered : (s : List ℕ) → numbered (sheet_tests s) ≡ true
-unfolding sheet_tests length_tests numbered
-sheet_numbered s = number_join (size_tests s) _ (sizes_numbered s) (rows_numbered s)
+sheet_tests s = ask rule.SheetShort (leb head_bytes (length s)) part.Whole (length s) (length s) (Some head_bytes) ∷ (size_tests s ++ length_tests s)
 
 -- ---- all tests hold exactly where the layout is kept
 
@@ -175,8 +143,8 @@ sheet_holds s =
 
 -- ---- the answer, as the code finds it
 
-pub sheet_told : (s : List ℕ) {r : Fault} → r ≡ told (verdict (sheet_tests s)) → Tells (sheet_ok s) (sheet_tests s) r
-sheet_told s e = tells (sheet_tests s) (sheet_numbered s) (sheet_holds s) (e ∙ told_is (sheet_tests s))
+pub sheet_told : (s : List ℕ) {r : Told} → r ≡ verdict (sheet_tests s) → Tells (sheet_ok s) (sheet_tests s) r
+sheet_told s e = tells (sheet_tests s) (sheet_holds s) e
 
 -- where no rule of the layout is broken, s is a sheet
 pub sheet_kept : (s : List ℕ) → verdict (sheet_tests s) ≡ Ok tt → Checked s
@@ -191,38 +159,37 @@ target_told s base c n k i sum f l h e q =
 
 -- ---- the answer, part by part
 
-pub rows_told : (s : List ℕ) → fault_of (row_tests s) ≡
-    or_else (fault_of (each_below (animation_count s) (animation_tests s)))
-    (or_else (fault_of (each_below (content_count s) (content_tests s (contents_at s) (animation_count s))))
-    (fault_of (targets_tests s (targets_at s) (content_count s) (target_count s) (key_count s))))
+pub rows_told : (s : List ℕ) → verdict (row_tests s) ≡
+    or_else (verdict (each_below (animation_count s) (animation_tests s)))
+    (or_else (verdict (each_below (content_count s) (content_tests s (contents_at s) (animation_count s))))
+    (verdict (targets_tests s (targets_at s) (content_count s) (target_count s) (key_count s))))
 unfolding row_tests
 rows_told s =
-    let a = animation_count s in
     rw (
-      fault_join (each_below a (animation_tests s)) _ (number_each _ _ (animation_numbered s)),
-      fault_join (each_below (content_count s) (content_tests s (contents_at s) a)) _ (number_each _ _ (content_numbered s _ _)),
+      fault_join (each_below (animation_count s) (animation_tests s)),
+      fault_join (each_below (content_count s) (content_tests s (contents_at s) (animation_count s))),
     )
 
-pub sheet_tells : (s : List ℕ) {r : Fault} → r ≡ fault_of (sheet_tests s) → Tells (sheet_ok s) (sheet_tests s) r
-sheet_tells s e = tells (sheet_tests s) (sheet_numbered s) (sheet_holds s) e
-
 -- the sizes are not all there
-pub sheet_short_lem : (s : List ℕ) {r : Fault} → length s < head_bytes → r ≡ fault sheet_short 0 0 (length s) (length s) head_bytes → Tells (sheet_ok s) (sheet_tests s) r
-sheet_short_lem s l e = sheet_tells s (e ∙ (unfold sheet_tests fault_of in rw (lt-leb head_bytes (length s) l)))
+pub sheet_short_lem : (s : List ℕ) {r : Told} → length s < head_bytes → r ≡ Err (fault rule.SheetShort part.Whole (length s) (length s) (Some head_bytes)) → Tells (sheet_ok s) (sheet_tests s) r
+sheet_short_lem s l e = sheet_told s (e ∙ (unfold sheet_tests verdict in rw (lt-leb head_bytes (length s) l)))
 
-module _ (s : List ℕ) {f : Fault} (l : head_bytes ≤ length s) (e : f ≡ fault_of (size_tests s)) where
+module _ (s : List ℕ) {f : Told} (l : head_bytes ≤ length s) (e : f ≡ verdict (size_tests s)) where
+  unsized : (f ≡ Ok tt → ⊥) → all_hold (size_tests s) ≡ false
+  unsized n = other_failed (size_tests s) (λ z. n (e ∙ z))
+
   -- a size is out of its range
-  pub sheet_sizes : (f.rule ≡ 0 → ⊥) → Tells (sheet_ok s) (sheet_tests s) f
-  sheet_sizes n = sheet_tells s (e ∙ (unfold sheet_tests fault_of in rw (le-leb head_bytes (length s) l) (sym (failed_join (size_tests s) (length_tests s) (other_failed (size_tests s) e n)))))
+  pub sheet_sizes : (f ≡ Ok tt → ⊥) → Tells (sheet_ok s) (sheet_tests s) f
+  sheet_sizes n = sheet_told s (e ∙ (unfold sheet_tests verdict in rw (le-leb head_bytes (length s) l) (sym (failed_join (size_tests s) (length_tests s) (unsized n)))))
 
-  sized : f.rule ≡ 0 → fault_of (sheet_tests s) ≡ fault_of (length_tests s)
-  unfolding sheet_tests fault_of
-  sized z = rw (le-leb head_bytes (length s) l) (held_join (size_tests s) (length_tests s) (zero_held (size_tests s) (sizes_numbered s) e z))
+  sized : f ≡ Ok tt → verdict (sheet_tests s) ≡ verdict (length_tests s)
+  unfolding sheet_tests verdict
+  sized z = rw (le-leb head_bytes (length s) l) (held_join (size_tests s) (length_tests s) (accepts (size_tests s) (sym e ∙ z)))
 
   -- the length is not theirs
-  pub sheet_long : {r : Fault} → f.rule ≡ 0 → (length s ≡ sheet_bytes s → ⊥) → r ≡ fault sheet_length 0 0 (length s) (length s) (sheet_bytes s) → Tells (sheet_ok s) (sheet_tests s) r
-  sheet_long {r} z n q = sheet_tells s {r = r} (rw (q, sized z) (unfold length_tests fault_of in rw (ne_eqb (length s) (sheet_bytes s) n)))
+  pub sheet_long : {r : Told} → f ≡ Ok tt → (length s ≡ sheet_bytes s → ⊥) → r ≡ Err (fault rule.SheetLength part.Whole (length s) (length s) (Some (sheet_bytes s))) → Tells (sheet_ok s) (sheet_tests s) r
+  sheet_long {r} z n q = sheet_told s {r = r} (rw (q, sized z) (unfold length_tests verdict in rw (ne_eqb (length s) (sheet_bytes s) n)))
 
   -- the rows decide
-  pub sheet_rows_lem : {r : Fault} → f.rule ≡ 0 → length s ≡ sheet_bytes s → r ≡ fault_of (row_tests s) → Tells (sheet_ok s) (sheet_tests s) r
-  sheet_rows_lem {r} z n q = sheet_tells s {r = r} (rw (q, sized z) (unfold length_tests fault_of in rw (eq-eqb (length s) (sheet_bytes s) n)))
+  pub sheet_rows_lem : {r : Told} → f ≡ Ok tt → length s ≡ sheet_bytes s → r ≡ verdict (row_tests s) → Tells (sheet_ok s) (sheet_tests s) r
+  sheet_rows_lem {r} z n q = sheet_told s {r = r} (rw (q, sized z) (unfold length_tests verdict in rw (eq-eqb (length s) (sheet_bytes s) n)))

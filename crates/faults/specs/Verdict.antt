@@ -1,30 +1,12 @@
--- The first failing test of a list, as the result that the code hands on: it accepts, or tells the fault. Assumes nothing.
-use Rattle.std.specs.Prelude.{ℕ, zero, suc, ◌+◌, ◌<◌, Bool, true, false, ◌&&◌, ◌≡◌, refl, List, [], ◌∷◌, ◌++◌, if◌then◌else◌, Result, Ok, Err}
-use Rattle.std.proofs.Common.{sym, ap, ◌∙◌, arith, ⊎_elim, add-one, eq-or-lt_of_le, le_of_suc-le-suc, not-suc-le-zero}
+-- The verdict of two lists, and of the rows of a table one after the other, step by step as code finds it. Assumes nothing.
+use Rattle.std.specs.Prelude.{ℕ, zero, suc, ◌+◌, ◌<◌, Bool, true, false, ◌≡◌, refl, List, [], ◌∷◌, ◌++◌, if◌then◌else◌, Ok, Err}
+use Rattle.std.proofs.Common.{sym, ap, ◌∙◌, ⊎_elim, add-one, eq-or-lt_of_le, le_of_suc-le-suc, not-suc-le-zero}
 use Rattle.faults.specs.declared.fault.Fault.{Fault}
-use Rattle.faults.specs.Tests.{Test, none, fault_of, all_hold, each_below}
+use Rattle.faults.specs.Tests.{Told, Test, verdict, each_below}
 
-unfoldable pub verdict : List Test → Result (Unit {0}) Fault
-verdict [] = Ok tt
-verdict (t ∷ ts) = if t.holds then verdict ts else Err t.fault
-
--- one thing that is asked
-abbrev pub asked : Bool → Fault → Result (Unit {0}) Fault
-asked b f = if b then Ok tt else Err f
-
--- what is told of a result, no fault where it accepts
-abbrev pub told : Result (Unit {0}) Fault → Fault
-told (Ok x) = none
-told (Err f) = f
-
-pub told_is : (ts : List Test) → told (verdict ts) ≡ fault_of ts
-unfolding verdict fault_of
-told_is [] = refl
-told_is (t ∷ ts) = go t.holds (told_is ts)
-  where
-    go : (b : Bool) → told (verdict ts) ≡ fault_of ts → told (if b then verdict ts else Err t.fault) ≡ (if b then fault_of ts else t.fault)
-    go true e = e
-    go false e = refl
+-- a row below n is answered with the verdict on its tests g
+abbrev pub Answers : ℕ → (ℕ → Told → Type 0) → (ℕ → List Test) → Type 0
+Answers n post g = (i : ℕ) (r : Told) → i < n → post i r → r ≡ verdict (g i)
 
 -- ---- two lists
 
@@ -69,14 +51,3 @@ each_tells m (suc n) g f l h e =
     (λ (q : m ≡ n). first_accepts (each_below n g) (g n) (ap (λ k. verdict (each_below k g)) (sym q) ∙ h) ∙ ap (λ k. verdict (g k)) (sym q) ∙ e)
     (λ (k : m < n). first_tells (each_below n g) (g n) f (each_tells m n g f k h e))
     (eq-or-lt_of_le (le_of_suc-le-suc l))
-
--- ---- what it says of the tests
-
-pub accepts : (ts : List Test) → verdict ts ≡ Ok tt → all_hold ts ≡ true
-unfolding verdict all_hold
-accepts [] e = refl
-accepts (t ∷ ts) e = go t.holds (accepts ts) e
-  where
-    go : (b : Bool) → (verdict ts ≡ Ok tt → all_hold ts ≡ true) → (if b then verdict ts else Err t.fault) ≡ Ok tt → (b && all_hold ts) ≡ true
-    go true h q = h q
-    go false h q = cc

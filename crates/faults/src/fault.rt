@@ -1,24 +1,36 @@
 // A broken rule, and how one is asked.
 ghost use Rattle.std.specs.Prelude.{◌≡◌};
-ghost use Rattle.faults.specs.Verdict.{asked, told};
+ghost use Rattle.faults.specs.Tests.{asked};
 
-use crate::rules::NONE;
+use crate::rules::Rule;
 
-// `rule` is the number of the broken rule, 0 where none is (see rules.rt); `row` the row of its part, for a key its track, and `key` the key's number in that
-// track. `at` is the byte offset of the field, `there` what it holds: a number, or the bits of an f32. `wants` is the number that the rule holds it against,
-// 0 where the rule has none.
-#[derive(Clone, Copy, Debug)]
+// What a rule is on: the file as a whole with the sizes at its start, a row of one of its tables, or a key of a track.
+#[derive(Clone, Copy, Debug, PartialEq, Eq)]
+pub enum Part {
+    Whole,
+    Row(usize),
+    Key { track: usize, key: usize },
+}
+
+// A number in a file: a whole one, or an f32 by its bits.
+#[derive(Clone, Copy, Debug, PartialEq, Eq)]
+pub enum Number {
+    Whole(usize),
+    Float(u32),
+}
+
+// `at` is the byte offset of the field, `there` what it holds. `wants` is the number that the rule holds it against, where it holds it against one.
+#[derive(Clone, Copy, Debug, PartialEq, Eq)]
 pub struct Fault {
-    pub rule: u8,
-    pub row: usize,
-    pub key: usize,
+    pub rule: Rule,
+    pub part: Part,
     pub at: usize,
-    pub there: usize,
-    pub wants: usize,
+    pub there: Number,
+    pub wants: Option<Number>,
 }
 
 // What is asked of a field.
-pub fn ask(holds: bool, fault: Fault) -> Result<(), Fault>
+pub(crate) fn ask(holds: bool, fault: Fault) -> Result<(), Fault>
     ensures { result ≡ asked holds fault }
 {
     if holds { Ok(()) } else { Err(fault) }
@@ -27,51 +39,32 @@ pub fn ask(holds: bool, fault: Fault) -> Result<(), Fault>
 impl Fault {
     ghost use Rattle.std.specs.Prelude.{◌≡◌, ◌+◌, ◌<◌, length};
     ghost use Rattle.field.specs.Read.{u32_at};
-    ghost use Rattle.faults.specs.Tests.{fault};
+    ghost use Rattle.faults.specs.Tests.{fault, float_fault};
 
-    // A broken rule that is no key's.
-    pub fn of(rule: u8, row: usize, at: usize, there: usize, wants: usize) -> Fault
-        ensures { result ≡ fault rule row 0 at there wants }
+    // A rule that a whole number breaks.
+    pub fn of(rule: Rule, part: Part, at: usize, there: usize, wants: Option<usize>) -> Fault
+        ensures { result ≡ fault rule part at there wants }
     {
         Fault {
             rule,
-            row,
-            key: 0,
+            part,
             at,
-            there,
-            wants,
+            there: Number::Whole(there),
+            wants: wants.map(Number::Whole),
         }
     }
 
-    // A rule that the f32 at `at` breaks, whose bits are told.
-    pub fn of_float(s: &[u8], rule: u8, row: usize, key: usize, at: usize, wants: usize) -> Fault
+    // A rule that the f32 at `at` breaks.
+    pub fn of_float(s: &[u8], rule: Rule, part: Part, at: usize, wants: Option<u32>) -> Fault
         requires { at + 3 < length s.now }
-        ensures { result ≡ fault rule row key at (u32_at s.now at) wants }
+        ensures { result ≡ float_fault rule part at (u32_at s.now at) wants }
     {
         Fault {
             rule,
-            row,
-            key,
+            part,
             at,
-            there: field::u32_at(s, at) as usize,
-            wants,
+            there: Number::Float(field::u32_at(s, at)),
+            wants: wants.map(Number::Float),
         }
-    }
-}
-
-// For whoever takes a fault with the number 0 where no rule is broken.
-pub fn told(verdict: Result<(), Fault>) -> Fault
-    ensures { result ≡ told verdict }
-{
-    match verdict {
-        Ok(()) => Fault {
-            rule: NONE,
-            row: 0,
-            key: 0,
-            at: 0,
-            there: 0,
-            wants: 0,
-        },
-        Err(fault) => fault,
     }
 }

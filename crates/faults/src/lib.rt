@@ -5,11 +5,13 @@
 mod books;
 mod fault;
 mod names;
-pub mod rules;
+mod rules;
 mod sheets;
 mod stored;
+mod walk;
 
 pub use books::book_fault;
-pub use fault::Fault;
+pub use fault::{Fault, Number, Part};
+pub use rules::Rule;
 pub use sheets::sheet_fault;
 pub use stored::{keys_fault, load_fault};

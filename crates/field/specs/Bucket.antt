@@ -1,5 +1,5 @@
 -- The bucket of a name. The names of a table's rows are compared only where two share one, as the same name does. Assumes nothing.
-use Rattle.std.specs.Prelude.{◌≡◌, ℕ, ◌+◌, ◌*◌, ◌/◌, ◌%◌, ◌^◌, ◌<◌, ◌≤◌, Bool, true, false, not, List, slice_index}
+use Rattle.std.specs.Prelude.{◌≡◌, ℕ, ◌+◌, ◌*◌, ◌/◌, ◌%◌, ◌^◌, ◌<◌, ◌≤◌, Bool, true, false, not, List, get_or}
 use Rattle.std.proofs.Math.Path.{refl}
 use Rattle.std.proofs.Common.{arith, eqb-true}
 use Rattle.laws.specs.Below.{all_below, all_at, all_of}
@@ -66,7 +66,7 @@ unfoldable pub row_bucket : List ℕ → ℕ → ℕ → ℕ → ℕ
 row_bucket s base stride i = bucket_of s (base + i * stride)
 
 -- so where that was not seen, no earlier row has the name
-pub unseen_fresh : (s : List ℕ) (base stride i : ℕ) {seen : List ℕ} → Noted buckets (row_bucket s base stride) seen i → slice_index seen (row_bucket s base stride i) ≡ 0
+pub unseen_fresh : (s : List ℕ) (base stride i : ℕ) {seen : List Bool} → Noted buckets (row_bucket s base stride) seen i → get_or seen (row_bucket s base stride i) false ≡ false
     → all_below i (other_name s base stride i) ≡ true
 unfolding other_name row_bucket
 unseen_fresh s base stride i w z = all_of i (other_name s base stride i) (λ j l. go j l (same_name s (base + j * stride) s (base + i * stride)) refl)

@@ -1,7 +1,5 @@
 // An index of a table's names by their buckets, for a search by one name after another.
-ghost use Rattle.std.specs.Prelude.{◌≡◌, ◌+◌, ◌<◌, ◌≤◌, true, length};
-ghost use Rattle.field.specs.Name.{name_bytes, names_ok, find_name, Fields};
-ghost use Rattle.field.specs.Index.{Blank, Indexed};
+ghost use Rattle.field.specs.Index.{Blank};
 
 use crate::{BUCKETS, Names, bucket_of, same_name};
 
@@ -10,7 +8,7 @@ impl<'a> Names<'a> {
     ghost use Rattle.field.specs.Name.{name_bytes, names_ok, find_name};
     ghost use Rattle.field.specs.Index.{Indexed};
 
-    // Each row's number, and one, in its name's bucket. Of rows that share a bucket the last is kept.
+    // Each row's number, and one, in its name's bucket. Of rows that share a bucket the last is kept. Stays an array: there is no heap for a map.
     #[tactic(auto, using(crate::specs::Index::indexed_none, crate::specs::Index::indexed_more, crate::specs::Index::indexed_all), unfolding(crate::specs::Bucket::row_bucket))]
     pub fn index(&self) -> [u8; BUCKETS]
         requires { self.now.rows < 255 }
@@ -24,8 +22,8 @@ impl<'a> Names<'a> {
         index
     }
 
-    // The search by name, where the names are distinct, with an index of them: where no row has the name's bucket none has the name; the row that
-    // is kept there is looked at first.
+    // The search by name, where the names are distinct, with an index of them: where no row has the name's bucket none has the name; the row that is
+    // kept there is looked at first. Stays by hand: there is no heap for a map.
     pub fn find_indexed(&self, index: &[u8], names: &[u8], at: usize) -> Option<usize>
         requires distinct { names_ok self.now.table.now self.now.base self.now.stride self.now.rows ≡ true }
         requires indexed { Indexed self.now.table.now self.now.base self.now.stride self.now.rows index.now }
@@ -43,46 +41,9 @@ impl<'a> Names<'a> {
     }
 }
 
-// The index of a table that is given by its parts.
-pub fn index_names(s: &[u8], base: usize, stride: usize, rows: usize) -> [u8; BUCKETS]
-    requires { Fields s.now base stride rows × (rows < 255) }
-    ensures { Indexed s.now base stride rows result }
-{
-    let names = Names {
-        table: s,
-        base,
-        stride,
-        rows,
-    };
-    names.index()
-}
-
 // An index of any table, which tells nothing: no table that is indexed has a row 254.
 pub fn blank_index() -> [u8; BUCKETS]
     ensures { Blank result }
 {
     [255u8; BUCKETS]
-}
-
-// The search with an index in a table that is given by its parts.
-pub fn find_indexed(
-    table: &[u8],
-    base: usize,
-    stride: usize,
-    rows: usize,
-    index: &[u8],
-    names: &[u8],
-    at: usize,
-) -> Option<usize>
-    requires fields { Fields table.now base stride rows × (names_ok table.now base stride rows ≡ true) }
-    requires indexed { Indexed table.now base stride rows index.now × (at + name_bytes ≤ length names.now) }
-    ensures { result ≡ find_name table.now base stride rows names.now at }
-{
-    let table = Names {
-        table,
-        base,
-        stride,
-        rows,
-    };
-    table.find_indexed(index, names, at)
 }

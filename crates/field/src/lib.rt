@@ -12,8 +12,8 @@ ghost use Rattle.field.specs.Bucket.{buckets, bucket_of};
 ghost use Rattle.field.specs.Write.{put_float};
 ghost use Rattle.float.specs.Numbers.{finite};
 
-pub use index::{blank_index, find_indexed, index_names};
-pub use names::{Names, find_name};
+pub use index::blank_index;
+pub use names::Names;
 
 fn wide(x: u8) -> usize
     ensures { (result ≡ x) × (result < 256) }
@@ -108,7 +108,7 @@ pub fn name_at<'a>(s: &'a [u8], at: usize) -> &'a [u8]
     &s[at..at + NAME_BYTES]
 }
 
-// Eight bytes as one number: names are compared by words, since labels often begin alike.
+// Eight bytes as one number.
 #[tactic(auto, unfolding(crate::specs::Word::word_at))]
 fn word_at(s: &[u8], at: usize) -> u64
     requires { at + 8 ≤ length s.now }
@@ -124,7 +124,7 @@ pub fn empty_name(s: &[u8], at: usize) -> bool
     (word_at(s, at) == 0) & (word_at(s, at + 8) == 0) & (word_at(s, at + 16) == 0)
 }
 
-// Whether two fields hold one name.
+// Whether two fields hold one name. Stays by words: a comparison of the two slices, tried, takes nearly twice as long.
 pub fn same_name(s: &[u8], i: usize, t: &[u8], j: usize) -> bool
     requires { (i + name_bytes ≤ length s.now) × (j + name_bytes ≤ length t.now) }
     ensures { result ≡ same_name s.now i t.now j }

@@ -1,11 +1,12 @@
 // The names of a table's rows: fields of 24 bytes in a lent slice.
 ghost use Rattle.std.specs.Prelude.{◌≡◌, ◌+◌, ◌≤◌, true, false, length};
 ghost use Rattle.laws.specs.Below.{Passed};
-ghost use Rattle.field.specs.Name.{name_bytes, same_byte, same_name, find_name, Fields};
+ghost use Rattle.field.specs.Name.{name_bytes, same_byte, same_name, Fields};
 
 use crate::{BUCKETS, bucket_of, empty_name, same_name, word_at};
 
 // Whether two fields begin with the same eight bytes.
+// Stays apart from `same_tail`: an equal head tells of eight bytes alone, an equal tail of the whole name where the bytes before it are equal.
 fn same_head(s: &[u8], i: usize, t: &[u8], j: usize) -> bool
     requires first { i + name_bytes ≤ length s.now }
     requires second { j + name_bytes ≤ length t.now }
@@ -15,7 +16,7 @@ fn same_head(s: &[u8], i: usize, t: &[u8], j: usize) -> bool
     word_at(s, i) == word_at(t, j)
 }
 
-// Whether they end with the same eight.
+// Whether two fields end with the same eight bytes. Stays apart from `same_head`: equal, it tells of the whole name where the bytes before are equal.
 fn same_tail(s: &[u8], i: usize, t: &[u8], j: usize) -> bool
     requires first { i + name_bytes ≤ length s.now }
     requires second { j + name_bytes ≤ length t.now }
@@ -36,7 +37,7 @@ pub struct Names<'a> {
 }
 
 impl<'a> Names<'a> {
-    ghost use Rattle.std.specs.Prelude.{◌≡◌, ◌+◌, ◌*◌, ◌<◌, ◌≤◌, true, length};
+    ghost use Rattle.std.specs.Prelude.{◌≡◌, ◌+◌, ◌*◌, ◌<◌, ◌≤◌, true, false, length};
     ghost use Rattle.laws.specs.Below.{all_below};
     ghost use Rattle.field.specs.Name.{name_bytes, row_named, other_name, name_ok, names_ok, find_name};
 
@@ -67,33 +68,33 @@ impl<'a> Names<'a> {
         (0..i).all(|j| self.differs(i, j))
     }
 
-    // `seen` says whether an earlier row has row i's bucket: where it is 0, none has the name, and none is compared.
+    // `seen`: an earlier row has row i's bucket. Where none has, none has the name, and none is compared.
     #[tactic(auto, unfolding(crate::specs::Name::name_ok))]
-    fn name_ok(&self, i: usize, seen: u8) -> bool
+    fn name_ok(&self, i: usize, seen: bool) -> bool
         requires row { i < self.now.rows }
-        requires unseen { seen ≡ 0 → all_below i (other_name self.now.table.now self.now.base self.now.stride i) ≡ true }
+        requires unseen { seen ≡ false → all_below i (other_name self.now.table.now self.now.base self.now.stride i) ≡ true }
         ensures { result ≡ name_ok self.now.table.now self.now.base self.now.stride i }
     {
-        !empty_name(self.table, self.place(i)) && (seen == 0 || self.is_fresh(i))
+        !empty_name(self.table, self.place(i)) && (!seen || self.is_fresh(i))
     }
 
-    // Whether the names are distinct and not empty. The buckets seen so far spare most comparisons.
+    // Whether the names are distinct and not empty. The buckets seen so far spare most comparisons. Stays an array: there is no heap for a set.
     #[tactic(auto, using(laws::specs::Below::passed_more, laws::specs::Below::passed_not, laws::specs::Below::passed_all), unfolding(crate::specs::Name::names_ok, crate::specs::Bucket::row_bucket))]
     pub fn are_distinct(&self) -> bool
         ensures { result ≡ names_ok self.now.table.now self.now.base self.now.stride self.now.rows }
     {
-        let mut seen = [0u8; BUCKETS];
+        let mut seen = [false; BUCKETS];
         for i in 0..self.rows {
             let bucket = bucket_of(self.table, self.place(i));
             if !self.name_ok(i, seen[bucket]) {
                 return false;
             }
-            seen[bucket] = 1;
+            seen[bucket] = true;
         }
         true
     }
 
-    // The first row that has the name at `at` of another slice: the labelled search that stands for a HashMap.
+    // The first row that has the name at `at` of another slice. Stays a labelled search: there is no heap for a HashMap.
     // Eight bytes at each end are one comparison each, which most rows fail; the bytes between are compared one by one.
     #[tactic(auto, using(laws::specs::First::missed_none, laws::specs::First::missed_all, laws::specs::First::missed_at), unfolding(crate::specs::Name::find_name, crate::specs::Name::row_named))]
     pub fn find(&self, names: &[u8], at: usize) -> Option<usize>
@@ -117,25 +118,4 @@ impl<'a> Names<'a> {
         }
         None
     }
-}
-
-// The search in a table that is given by its parts.
-pub fn find_name(
-    table: &[u8],
-    base: usize,
-    stride: usize,
-    rows: usize,
-    names: &[u8],
-    at: usize,
-) -> Option<usize>
-    requires { Fields table.now base stride rows × (at + name_bytes ≤ length names.now) }
-    ensures { result ≡ find_name table.now base stride rows names.now at }
-{
-    let table = Names {
-        table,
-        base,
-        stride,
-        rows,
-    };
-    table.find(names, at)
 }

@@ -32,20 +32,24 @@ struct Finite<'a> {
     keys: Keys<'a>,
 }
 
-// Constant: frame and slope are +0.
+// Constant: frame and slope are +0. Of keys up to `end`, since the lists may be of unlike lengths.
 #[derive(Clone, Copy)]
 struct Constant<'a> {
     frames: &'a [f32],
     slopes: &'a [f32],
-    ghost long: { length slopes.now ≡ length frames.now },
+    end: usize,
+    ghost frames_long: { end ≤ length frames.now },
+    ghost slopes_long: { end ≤ length slopes.now },
 }
 
-// Step: slope +0, value whole in 0..65,535, not -0.
+// Step: slope +0, value whole in 0..65,535, not -0. Up to `end` likewise.
 #[derive(Clone, Copy)]
 struct Step<'a> {
     values: &'a [f32],
     slopes: &'a [f32],
-    ghost long: { length slopes.now ≡ length values.now },
+    end: usize,
+    ghost values_long: { end ≤ length values.now },
+    ghost slopes_long: { end ≤ length slopes.now },
 }
 
 // Step and Hermite: a frame is not above the next, so of n frames there are n - 1 tests.
@@ -70,7 +74,7 @@ impl<'a> Rule for Finite<'a> {
 }
 
 impl<'a> Rule for Constant<'a> {
-    ghost places = { λ r. length r.frames.now };
+    ghost places = { λ r. r.end };
 
     ghost holds = { λ r. constant_at r.frames.now r.slopes.now };
 
@@ -80,7 +84,7 @@ impl<'a> Rule for Constant<'a> {
 }
 
 impl<'a> Rule for Step<'a> {
-    ghost places = { λ r. length r.values.now };
+    ghost places = { λ r. r.end };
 
     ghost holds = { λ r. step_at r.values.now r.slopes.now };
 
@@ -99,6 +103,7 @@ impl<'a> Rule for Rising<'a> {
     }
 }
 
+// Stays over a rule, a place and a length, here and below: a struct of them would be made for each block and taken apart at once.
 #[tactic(auto, using(laws::specs::Blocks::four_is))]
 fn four_pass<R: Rule>(rule: &R, i: usize) -> bool
     requires within { i + 4 ≤ R.places rule.now }
@@ -178,18 +183,31 @@ pub fn finite_keys(keys: Keys<'_>) -> bool
 
 #[tactic(auto, using(crate::specs::ByPlace::constant_block))]
 pub fn constant_keys(frames: &[f32], slopes: &[f32], first: usize, count: usize) -> bool
-    requires { (first + count ≤ length frames.now) × (length slopes.now ≡ length frames.now) }
+    requires { (first + count ≤ length frames.now) × (first + count ≤ length slopes.now) }
     ensures { result ≡ all_below count (constant_key frames.now slopes.now first) }
 {
-    all_pass(&Constant { frames, slopes }, first, count)
+    let end = first + count;
+    let rule = Constant {
+        frames,
+        slopes,
+        end,
+    };
+    all_pass(&rule, first, count)
 }
 
+// Stays beside `constant_keys`: each names its rule, and what they share is `all_pass`.
 #[tactic(auto, using(crate::specs::ByPlace::step_block))]
 pub fn step_keys(values: &[f32], slopes: &[f32], first: usize, count: usize) -> bool
-    requires { (first + count ≤ length values.now) × (length slopes.now ≡ length values.now) }
+    requires { (first + count ≤ length values.now) × (first + count ≤ length slopes.now) }
     ensures { result ≡ all_below count (step_key values.now slopes.now first) }
 {
-    all_pass(&Step { values, slopes }, first, count)
+    let end = first + count;
+    let rule = Step {
+        values,
+        slopes,
+        end,
+    };
+    all_pass(&rule, first, count)
 }
 
 // The first frame is held against itself, so that a NaN alone falls too; where there is a next, their test says that as well.

@@ -7,7 +7,7 @@ mod ready;
 mod rules;
 mod stored;
 
-pub use load::{check_lent, check_load, load_keys, load_refusal};
+pub use load::{check_load, load_keys};
 pub use ready::Ready;
-pub use rules::{key_rule, keys_ok};
-pub use stored::{StoredKeys, frames_at, points_at};
+pub use rules::{curve_ok, key_rule, keys_ok};
+pub use stored::StoredKeys;

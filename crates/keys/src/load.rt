@@ -1,38 +1,22 @@
-// Rows 3 and 4 of the table of refusals; and loading: the keys that a sheet holds are copied into three lent arrays.
-ghost use Rattle.std.specs.Prelude.{◌≡◌, ◌∷◌, [], length, IfOk};
+// Loading: the keys that a sheet holds are copied into three lent arrays.
+// Stays over three arrays, or over their lengths: C lends them apart, and row 3 of the table of refusals tells where they are unlike.
+ghost use Rattle.std.specs.Prelude.{◌≡◌, length, IfOk};
 ghost use Rattle.laws.specs.Refusal.{declined};
-ghost use Rattle.laws.specs.Rows.{row, declines};
-ghost use Rattle.sheet.specs.Checked.{Checked};
-ghost use Rattle.keys.specs.Keys.{keys_ok};
-ghost use Rattle.keys.specs.Stored.{floats_from, stored_frames, stored_values, stored_slopes, Floats};
-ghost use Rattle.keys.specs.Load.{arrays_ok, lent_rows, load_table, loaded, load_of};
+ghost use Rattle.laws.specs.Rows.{declines};
+ghost use Rattle.keys.specs.Stored.{floats_from, Floats};
+ghost use Rattle.keys.specs.Load.{arrays_ok, load_table, loaded, load_of};
 
-use crate::rules::keys_ok;
-use crate::stored::{frames_at, points_at, stored_ok};
+use crate::stored::stored_ok;
 use laws::{Refusal, ask};
 use sheet::Sheet;
 
 // Row 3: key arrays of these lengths are each K long.
 #[tactic(auto, unfolding(crate::specs::Load::arrays_ok))]
-fn arrays_ok(s: &[u8], frames: usize, values: usize, slopes: usize) -> bool
-    requires { Checked s.now }
-    ensures { result ≡ arrays_ok s.now frames values slopes }
+pub fn arrays_ok(sheet: &Sheet<'_>, frames: usize, values: usize, slopes: usize) -> bool
+    ensures { result ≡ arrays_ok sheet.now.bytes.now frames values slopes }
 {
-    let n = sheet::key_count(s);
+    let n = sheet.key_count();
     (frames == n) & (values == n) & (slopes == n)
-}
-
-// Rows 3 and 4 of lent keys.
-#[tactic(auto, unfolding(crate::specs::Load::lengths_ok, laws::specs::Rows::declines, laws::specs::Rows::unless))]
-pub fn check_lent(s: &[u8], frames: &[f32], values: &[f32], slopes: &[f32]) -> Result<(), Refusal>
-    requires { Checked s.now }
-    ensures { declined result ≡ declines (lent_rows s.now frames.now values.now slopes.now) }
-{
-    ask(
-        arrays_ok(s, frames.len(), values.len(), slopes.len()),
-        Refusal::KeyArrayLength,
-    )?;
-    ask(keys_ok(s, frames, values, slopes), Refusal::KeyRules)
 }
 
 // Rows 1, 3 and 4 of loading into arrays of these lengths.
@@ -48,24 +32,14 @@ pub fn check_load(
 {
     let sheet = Sheet::new(s)?;
     ask(
-        arrays_ok(s, frames, values, slopes),
+        arrays_ok(&sheet, frames, values, slopes),
         Refusal::KeyArrayLength,
     )?;
     ask(stored_ok(sheet), Refusal::KeyRules)?;
     Ok(sheet)
 }
 
-// The number of the row that declines such a load, 0 where none does.
-pub fn load_refusal(s: &[u8], frames: usize, values: usize, slopes: usize) -> u8
-    ensures { result ≡ declines (load_table s.now frames values slopes) }
-{
-    match check_load(s, frames, values, slopes) {
-        Ok(_) => 0,
-        Err(e) => e.number(),
-    }
-}
-
-// The f32 at `at`, and those each `stride` bytes on, into a lent array.
+// The f32 at `at`, and those each `stride` bytes on, into a lent array. Stays by index: of what an adapter of iter_mut writes the library says nothing.
 #[tactic(auto, using(laws::specs::Table::filled_none, laws::specs::Table::filled_more, laws::specs::Table::filled_all))]
 fn copy_floats(s: &[u8], at: usize, stride: usize, out: &mut [f32])
     requires { Floats s.now at stride (length out.old) }
@@ -86,9 +60,9 @@ pub fn load_keys(
 ) -> Result<(), Refusal>
     ensures { loaded (declined result) frames.new values.new slopes.new ≡ load_of s.now frames.old values.old slopes.old }
 {
-    check_load(s, frames.len(), values.len(), slopes.len())?;
-    let points = points_at(s);
-    copy_floats(s, frames_at(s), 4, frames);
+    let sheet = check_load(s, frames.len(), values.len(), slopes.len())?;
+    let points = sheet.points_at();
+    copy_floats(s, sheet.frames_at(), 4, frames);
     copy_floats(s, points, 8, values);
     copy_floats(s, points + 4, 8, slopes);
     Ok(())

@@ -1,10 +1,36 @@
 // A sheet and its keys, looked at once: whoever holds them needs no proof of its own that a track's keys are there and keep their rules.
+// Stays over three slices where they are looked at: C lends them apart.
+ghost use Rattle.std.specs.Prelude.{◌≡◌};
+ghost use Rattle.laws.specs.Refusal.{declined};
+ghost use Rattle.laws.specs.Rows.{declines};
+ghost use Rattle.keys.specs.Load.{lent_rows};
 ghost use Rattle.keys.specs.Checked.{KeysChecked};
 
-use crate::load::check_lent;
+use crate::load::arrays_ok;
+use crate::rules::keys_ok;
 use curve::Keys;
-use laws::Refusal;
+use laws::{Refusal, ask};
 use sheet::Sheet;
+
+// Rows 3 and 4 of the table of refusals.
+#[tactic(auto, unfolding(crate::specs::Load::lengths_ok, laws::specs::Rows::declines, laws::specs::Rows::unless))]
+fn check_lent(
+    sheet: &Sheet<'_>,
+    frames: &[f32],
+    values: &[f32],
+    slopes: &[f32],
+) -> Result<(), Refusal>
+    ensures { declined result ≡ declines (lent_rows sheet.now.bytes.now frames.now values.now slopes.now) }
+{
+    ask(
+        arrays_ok(sheet, frames.len(), values.len(), slopes.len()),
+        Refusal::KeyArrayLength,
+    )?;
+    ask(
+        keys_ok(sheet.bytes, frames, values, slopes),
+        Refusal::KeyRules,
+    )
+}
 
 #[derive(Clone, Copy)]
 pub struct Ready<'a> {
@@ -35,7 +61,7 @@ impl<'a> Ready<'a> {
         ensures values { IfOk result (λ r. r.keys.values.now ≡ values.now) }
         ensures slopes { IfOk result (λ r. r.keys.slopes.now ≡ slopes.now) }
     {
-        check_lent(sheet.bytes, frames, values, slopes)?;
+        check_lent(&sheet, frames, values, slopes)?;
         let keys = Keys {
             frames,
             values,

@@ -1,4 +1,5 @@
 // Whether three lent lists are keys of a sheet: row 4 of the table of refusals.
+// Stays over three slices where they need not be one length: C lends them apart.
 ghost use Rattle.std.specs.Prelude.{◌≡◌, ◌+◌, ◌<◌, ◌≤◌, length};
 ghost use Rattle.laws.specs.Below.{all_below};
 ghost use Rattle.sheet.specs.Sizes.{target_count};
@@ -13,17 +14,25 @@ use float::{is_whole16, same_bits};
 
 // Whether the `count` keys from `first` on keep the rules of a curve.
 #[tactic(auto, unfolding(crate::specs::Rules::curve_ok))]
-fn curve_ok(kind: Kind, keys: &Keys<'_>, first: usize, count: usize) -> bool
-    requires { first + count ≤ length keys.now.frames.now }
-    ensures { result ≡ curve_ok (number kind) keys.now.frames.now keys.now.values.now keys.now.slopes.now first count }
+pub fn curve_ok(
+    kind: Kind,
+    frames: &[f32],
+    values: &[f32],
+    slopes: &[f32],
+    first: usize,
+    count: usize,
+) -> bool
+    requires frames { first + count ≤ length frames.now }
+    requires values { first + count ≤ length values.now }
+    requires slopes { first + count ≤ length slopes.now }
+    ensures { result ≡ curve_ok (number kind) frames.now values.now slopes.now first count }
 {
     match kind {
-        Kind::Constant => constant_keys(keys.frames, keys.slopes, first, count),
+        Kind::Constant => constant_keys(frames, slopes, first, count),
         Kind::Step => {
-            step_keys(keys.values, keys.slopes, first, count)
-                & rising_keys(keys.frames, first, count)
+            step_keys(values, slopes, first, count) & rising_keys(frames, first, count)
         }
-        Kind::Hermite => rising_keys(keys.frames, first, count),
+        Kind::Hermite => rising_keys(frames, first, count),
     }
 }
 
@@ -49,7 +58,9 @@ fn held_track(s: &[u8], keys: &Keys<'_>, t: usize) -> bool
     let at = sheet::targets_at(s) + t * sheet::TARGET_BYTES;
     let first = u16_at(s, at + 10);
     let count = u16_at(s, at + 12);
-    first + count <= keys.len() && curve_ok(Kind::of(byte_at(s, at + 8)), keys, first, count)
+    let kind = Kind::of(byte_at(s, at + 8));
+    first + count <= keys.len()
+        && curve_ok(kind, keys.frames, keys.values, keys.slopes, first, count)
 }
 
 #[tactic(auto, unfolding(laws::specs::Below::all_below))]

@@ -1,8 +1,7 @@
 // The keys that a sheet holds, checked straight from its bytes, so that nothing lent changes before the check has passed.
 ghost use Rattle.std.specs.Prelude.{◌≡◌};
 ghost use Rattle.laws.specs.Below.{all_below};
-ghost use Rattle.sheet.specs.Sizes.{key_count, frames_at, points_at};
-ghost use Rattle.sheet.specs.Checked.{Checked};
+ghost use Rattle.sheet.specs.Sizes.{key_count};
 ghost use Rattle.keys.specs.Rules.{finite_key};
 ghost use Rattle.keys.specs.Keys.{keys_ok};
 ghost use Rattle.keys.specs.Stored.{stored_frames, stored_values, stored_slopes, Stored};
@@ -12,29 +11,15 @@ use curve::{Key, Kind};
 use field::{f32_at, finite_at};
 use sheet::Sheet;
 
-pub fn frames_at(s: &[u8]) -> usize
-    requires { Checked s.now }
-    ensures { result ≡ frames_at s.now }
-{
-    sheet::textures_at(s) + sheet::texture_count(s) * field::NAME_BYTES
-}
-
-pub fn points_at(s: &[u8]) -> usize
-    requires { Checked s.now }
-    ensures { result ≡ points_at s.now }
-{
-    frames_at(s) + sheet::key_count(s) * 4
-}
-
 #[tactic(auto, using(laws::specs::Below::all_none, laws::specs::Below::all_step, crate::specs::Stored::finite_stored))]
-fn finite_stored(s: &[u8]) -> bool
-    requires { Checked s.now }
-    ensures { result ≡ all_below (key_count s.now) (finite_key (stored_frames s.now) (stored_values s.now) (stored_slopes s.now)) }
+fn finite_stored(sheet: &Sheet<'_>) -> bool
+    ensures { result ≡ all_below (key_count sheet.now.bytes.now) (finite_key (stored_frames sheet.now.bytes.now) (stored_values sheet.now.bytes.now) (stored_slopes sheet.now.bytes.now)) }
 {
-    let frames = frames_at(s);
-    let points = points_at(s);
+    let s = sheet.bytes;
+    let frames = sheet.frames_at();
+    let points = sheet.points_at();
     let mut ok = true;
-    for i in 0..sheet::key_count(s) {
+    for i in 0..sheet.key_count() {
         ok &= finite_at(s, frames + i * 4)
             & finite_at(s, points + i * 8)
             & finite_at(s, points + 4 + i * 8);
@@ -62,19 +47,20 @@ impl<'a> StoredKeys<'a> {
         ensures finite { is_some result ≡ all_below (key_count sheet.entry.bytes.now) (finite_key (stored_frames sheet.entry.bytes.now) (stored_values sheet.entry.bytes.now) (stored_slopes sheet.entry.bytes.now)) }
         ensures same { IfSome result (λ k. k.sheet.bytes.now ≡ sheet.entry.bytes.now) }
     {
-        if finite_stored(sheet.bytes) {
+        if finite_stored(&sheet) {
             Some(StoredKeys { sheet })
         } else {
             None
         }
     }
 
+    // Key i's numbers. Stays three functions: each has its own start, stride and law that what it reads is finite.
     #[tactic(auto, using(crate::specs::Stored::stored_frame))]
     pub fn frame(&self, i: usize) -> f32
         requires { i < key_count self.now.sheet.bytes.now }
         ensures { result ≡ float_at self.now.sheet.bytes.now (frames_at self.now.sheet.bytes.now + i * 4) }
     {
-        f32_at(self.sheet.bytes, frames_at(self.sheet.bytes) + i * 4)
+        f32_at(self.sheet.bytes, self.sheet.frames_at() + i * 4)
     }
 
     #[tactic(auto, using(crate::specs::Stored::stored_value))]
@@ -82,7 +68,7 @@ impl<'a> StoredKeys<'a> {
         requires { i < key_count self.now.sheet.bytes.now }
         ensures { result ≡ float_at self.now.sheet.bytes.now (points_at self.now.sheet.bytes.now + i * 8) }
     {
-        f32_at(self.sheet.bytes, points_at(self.sheet.bytes) + i * 8)
+        f32_at(self.sheet.bytes, self.sheet.points_at() + i * 8)
     }
 
     #[tactic(auto, using(crate::specs::Stored::stored_slope))]
@@ -90,7 +76,7 @@ impl<'a> StoredKeys<'a> {
         requires { i < key_count self.now.sheet.bytes.now }
         ensures { result ≡ float_at self.now.sheet.bytes.now (points_at self.now.sheet.bytes.now + 4 + i * 8) }
     {
-        f32_at(self.sheet.bytes, points_at(self.sheet.bytes) + 4 + i * 8)
+        f32_at(self.sheet.bytes, self.sheet.points_at() + 4 + i * 8)
     }
 
     // Key i of a curve whose keys start at `first`. `last` is the key before it, which for the first is the first: carried, since finding it anew for each

@@ -1,5 +1,5 @@
 -- A refusal's number is not 0, so a call that gives one declines. Assumes nothing.
-use Rattle.std.specs.Prelude.{ℕ, zero, suc, ◌<◌, ◌≡◌, Result, Ok, Err}
+use Rattle.std.specs.Prelude.{◌<◌, ◌≡◌}
 use Rattle.std.proofs.Common.{arith}
 use Rattle.laws.specs.declared.refusal.Refusal.{Refusal}
 use Rattle.laws.specs.declared.refusal.Refusal.TheVariants as refusal

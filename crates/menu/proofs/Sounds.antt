@@ -1,13 +1,11 @@
 -- What the calls may count on where a player's state is not broken, and sheet and keys are checked. Assumes nothing.
-use Rattle.std.specs.Prelude.{ℕ, ◌≡◌, true, List, length, Float}
+use Rattle.std.specs.Prelude.{ℕ, ◌≡◌, true, List, Float}
 use Rattle.std.proofs.Common.{arith}
 use Rattle.sheet.specs.Checked.{Checked}
-use Rattle.keys.specs.Checked.{KeysChecked}
-use Rattle.saved.specs.Saved.{Savable}
 use Rattle.curve.specs.Lists.{keys}
 use Rattle.edit.specs.declared.spot.Spot.{Spot}
 use Rattle.edit.specs.Keys.{Within}
-use Rattle.edit.specs.Spot.{Inside}
+use Rattle.edit.specs.Spot.{InsideAll}
 use Rattle.edit.specs.Edit.{has_key}
 use Rattle.player.specs.declared.Player.{Player}
 use Rattle.player.specs.declared.undo.Way.{Way}
@@ -36,9 +34,6 @@ module _ (s : List ℕ) (p : Player) (e : player_ok s p ≡ true) where
   can_take Undo d = let c = sound_of.counts in record { reach = omega arith; standing = omega (arith, c.below); redo = omega (arith, c.room); undone = c.undoes }
   can_take Redo d = let c = sound_of.counts in record { redo = omega arith; reach = omega (arith, c.room); redone = c.redoes; standing = c.stands }
 
--- a place among the frames is one among the values and the slopes
-pub within : (fs vs ss : List Float) (p : Spot) → Inside fs p → length vs ≡ length fs → length ss ≡ length fs → Within (keys fs vs ss) p.at
-within fs vs ss p i v z = record { frames = i.here; values = omega (arith, i.here, v); slopes = omega (arith, i.here, z) }
-
-pub savable : (s : List ℕ) (fs vs ss : List Float) → Checked s → KeysChecked s fs vs ss → Savable s fs vs ss
-savable s fs vs ss w c = record { sheet = w; keys = c }
+-- a key's place is one of each array
+pub within : (fs vs ss : List Float) (p : Spot) → InsideAll fs vs ss p → Within (keys fs vs ss) p.at
+within fs vs ss p i = record { frames = i.frames.here; values = i.values; slopes = i.slopes }

@@ -29,9 +29,9 @@ pub fn requested(ready: &Ready, track: u16, key: u16, r: Request) -> Result<Chan
     ensures within { IfOk result (λ c. Within (keys ready.now.keys.frames.now ready.now.keys.values.now ready.now.keys.slopes.now) c.at) }
 {
     let held = TrackKey::of(ready, track, key);
-    held.check(r)?;
+    held.near.check(r)?;
     Ok(Change {
-        at: held.spot.at,
+        at: held.near.spot.at,
         entry: Entry {
             track,
             key,

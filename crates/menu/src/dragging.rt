@@ -1,10 +1,12 @@
 // A drag of one key: opened, dragged, and then dropped or abandoned. Play, pose, tick, readings and saving go on meanwhile.
+// Stays as C has it: slices are lent apart, down to what writes them (what only looks takes a `Lent`), and a refusal is a number.
 ghost use Rattle.std.specs.Prelude.{◌≡◌, IfOk, OnOk};
 ghost use Rattle.laws.specs.Refusal.{declined};
 ghost use Rattle.laws.specs.Rows.{declines};
 ghost use Rattle.edit.specs.Keys.{Within, keys, key_at};
 ghost use Rattle.edit.specs.Edit.{place};
 ghost use Rattle.player.specs.Counts.{CanEdit};
+ghost use Rattle.menu_checks.specs.Lent.{keys_of};
 ghost use Rattle.menu.specs.Rows.{open_table, drag_table, close_table};
 ghost use Rattle.menu.specs.Calls.{entry_for, gave, gave_edit, open_of, drag_of, drop_of, abandon_of};
 
@@ -17,25 +19,17 @@ use edit::request::{Request, check_track};
 use edit::track_key::TrackKey;
 use laws::refusal::ACCEPTED;
 use laws::{Refusal, ask};
-use menu_checks::check_state;
+use menu_checks::Lent;
 use player::Player;
 use player::drag::Drag;
 
 // The key as it is now.
 #[tactic(auto, using(laws::specs::Refused::refused, edit::specs::Accepted::tracked_key), unfolding(crate::specs::Rows::open_table, edit::specs::Edit::track_rows, edit::specs::Edit::spot_of, laws::specs::Rows::declines, laws::specs::Rows::unless))]
-fn check_open(
-    p: &Player,
-    s: &[u8],
-    frames: &[f32],
-    values: &[f32],
-    slopes: &[f32],
-    track: u16,
-    key: u16,
-) -> Result<Key, Refusal>
-    ensures declined { declined result ≡ declines (open_table s.now p.now (keys frames.now values.now slopes.now) track key) }
-    ensures key { IfOk result (λ k. k ≡ key_at (keys frames.now values.now slopes.now) (place s.now track key)) }
+fn check_open(lent: Lent, p: &Player, track: u16, key: u16) -> Result<Key, Refusal>
+    ensures declined { declined result ≡ declines (open_table lent.entry.sheet.now p.now (keys_of lent.entry) track key) }
+    ensures key { IfOk result (λ k. k ≡ key_at (keys_of lent.entry) (place lent.entry.sheet.now track key)) }
 {
-    let ready = check_state(p, s, frames, values, slopes)?;
+    let ready = lent.check_state(p)?;
     check_track(&ready.sheet, p.selection, p.drag.open, track, key)?;
     Ok(TrackKey::of(&ready, track, key).key())
 }
@@ -53,34 +47,23 @@ pub fn open_drag(
 ) -> Played
     ensures { result ≡ open_of s.now p (keys frames.now values.now slopes.now) track key }
 {
-    match check_open(&p, s, frames, values, slopes, track, key) {
+    match check_open(Lent::new(s, frames, values, slopes), &p, track, key) {
         Ok(now) => Played {
             refusal: ACCEPTED,
             player: p.with_drag(Drag::opened(track, key, now)),
         },
-        Err(e) => Played {
-            refusal: e.number(),
-            player: p,
-        },
+        Err(e) => Played::declined(p, e),
     }
 }
 
 #[tactic(auto, using(laws::specs::Refused::refused, crate::proofs::Sounds::open_key), unfolding(crate::specs::Rows::drag_table, crate::specs::Rows::drag_rows, laws::specs::Rows::declines, laws::specs::Rows::unless))]
-fn check_drag(
-    p: &Player,
-    s: &[u8],
-    frames: &[f32],
-    values: &[f32],
-    slopes: &[f32],
-    frame: f32,
-    value: f32,
-) -> Result<Change, Refusal>
-    ensures declined { declined result ≡ declines (drag_table s.now p.now (keys frames.now values.now slopes.now) frame value) }
-    ensures at { IfOk result (λ c. c.at ≡ place s.now p.now.drag.track p.now.drag.key) }
-    ensures entry { IfOk result (λ c. c.entry ≡ entry_for s.now (keys frames.now values.now slopes.now) p.now.drag.track p.now.drag.key (Request.Key frame value)) }
-    ensures within { IfOk result (λ c. Within (keys frames.now values.now slopes.now) c.at) }
+fn check_drag(lent: Lent, p: &Player, frame: f32, value: f32) -> Result<Change, Refusal>
+    ensures declined { declined result ≡ declines (drag_table lent.entry.sheet.now p.now (keys_of lent.entry) frame value) }
+    ensures at { IfOk result (λ c. c.at ≡ place lent.entry.sheet.now p.now.drag.track p.now.drag.key) }
+    ensures entry { IfOk result (λ c. c.entry ≡ entry_for lent.entry.sheet.now (keys_of lent.entry) p.now.drag.track p.now.drag.key (Request.Key frame value)) }
+    ensures within { IfOk result (λ c. Within (keys_of lent.entry) c.at) }
 {
-    let ready = check_state(p, s, frames, values, slopes)?;
+    let ready = lent.check_state(p)?;
     ask(p.drag.open, Refusal::DragState)?;
     requested(&ready, p.drag.track, p.drag.key, Request::Key(frame, value))
 }
@@ -98,7 +81,7 @@ pub fn drag(
 ) -> Edited
     ensures { gave_edit result (keys frames.new values.new slopes.new) ≡ drag_of s.now p (keys frames.old values.old slopes.old) frame value }
 {
-    match check_drag(&p, s, frames, values, slopes, frame, value) {
+    match check_drag(Lent::new(s, frames, values, slopes), &p, frame, value) {
         Ok(c) => {
             put_key(frames, values, slopes, c.at, c.entry.after);
             Edited {
@@ -110,11 +93,7 @@ pub fn drag(
                 }),
             }
         }
-        Err(e) => Edited {
-            refusal: e.number(),
-            unchanged: false,
-            player: p,
-        },
+        Err(e) => Edited::declined(p, e),
     }
 }
 
@@ -127,24 +106,18 @@ struct Held {
 
 // What a drop and an abandonment ask.
 #[tactic(auto, using(laws::specs::Refused::refused, crate::proofs::Sounds::open_key, crate::proofs::Sounds::can_edit, crate::proofs::Sounds::within), unfolding(crate::specs::Rows::close_table, edit::specs::Edit::spot_of, laws::specs::Rows::declines, laws::specs::Rows::unless))]
-fn check_close(
-    p: &Player,
-    s: &[u8],
-    frames: &[f32],
-    values: &[f32],
-    slopes: &[f32],
-) -> Result<Held, Refusal>
-    ensures declined { declined result ≡ declines (close_table s.now p.now (keys frames.now values.now slopes.now)) }
-    ensures at { IfOk result (λ h. h.at ≡ place s.now p.now.drag.track p.now.drag.key) }
-    ensures now { IfOk result (λ h. h.now ≡ key_at (keys frames.now values.now slopes.now) h.at) }
-    ensures within { IfOk result (λ h. Within (keys frames.now values.now slopes.now) h.at) }
+fn check_close(lent: Lent, p: &Player) -> Result<Held, Refusal>
+    ensures declined { declined result ≡ declines (close_table lent.entry.sheet.now p.now (keys_of lent.entry)) }
+    ensures at { IfOk result (λ h. h.at ≡ place lent.entry.sheet.now p.now.drag.track p.now.drag.key) }
+    ensures now { IfOk result (λ h. h.now ≡ key_at (keys_of lent.entry) h.at) }
+    ensures within { IfOk result (λ h. Within (keys_of lent.entry) h.at) }
     ensures counts { OnOk result (CanEdit p.now) }
 {
-    let ready = check_state(p, s, frames, values, slopes)?;
+    let ready = lent.check_state(p)?;
     ask(p.drag.open, Refusal::DragState)?;
     let held = TrackKey::of(&ready, p.drag.track, p.drag.key);
     Ok(Held {
-        at: held.spot.at,
+        at: held.near.spot.at,
         now: held.key(),
     })
 }
@@ -154,17 +127,13 @@ fn check_close(
 pub fn drop_drag(p: Player, s: &[u8], frames: &[f32], values: &[f32], slopes: &[f32]) -> Edited
     ensures { result ≡ drop_of s.now p (keys frames.now values.now slopes.now) }
 {
-    match check_close(&p, s, frames, values, slopes) {
+    match check_close(Lent::new(s, frames, values, slopes), &p) {
         Ok(held) => Edited {
             refusal: ACCEPTED,
             unchanged: p.drag.unchanged(held.now),
             player: p.dropped(held.now),
         },
-        Err(e) => Edited {
-            refusal: e.number(),
-            unchanged: false,
-            player: p,
-        },
+        Err(e) => Edited::declined(p, e),
     }
 }
 
@@ -179,7 +148,7 @@ pub fn abandon_drag(
 ) -> Played
     ensures { gave result (keys frames.new values.new slopes.new) ≡ abandon_of s.now p (keys frames.old values.old slopes.old) }
 {
-    match check_close(&p, s, frames, values, slopes) {
+    match check_close(Lent::new(s, frames, values, slopes), &p) {
         Ok(held) => {
             put_key(frames, values, slopes, held.at, p.drag.start());
             Played {
@@ -187,9 +156,6 @@ pub fn abandon_drag(
                 player: p.with_drag(Drag::closed()),
             }
         }
-        Err(e) => Played {
-            refusal: e.number(),
-            player: p,
-        },
+        Err(e) => Played::declined(p, e),
     }
 }

@@ -1,10 +1,12 @@
 // The edits of one key.
+// Stays as C has it: slices are lent apart, down to what writes them (what only looks takes a `Lent`), and a refusal is a number.
 ghost use Rattle.std.specs.Prelude.{◌≡◌, IfOk, OnOk};
 ghost use Rattle.laws.specs.Refusal.{declined};
 ghost use Rattle.laws.specs.Rows.{declines};
 ghost use Rattle.edit.specs.Keys.{Within, keys};
 ghost use Rattle.edit.specs.Edit.{place};
 ghost use Rattle.player.specs.Counts.{CanEdit};
+ghost use Rattle.menu_checks.specs.Lent.{keys_of};
 ghost use Rattle.menu.specs.Rows.{edit_table};
 ghost use Rattle.menu.specs.Calls.{gave_edit, entry_for, edit_of};
 
@@ -13,7 +15,7 @@ use edit::put::{put_key, same_key};
 use edit::request::{Request, check_track};
 use laws::Refusal;
 use laws::refusal::ACCEPTED;
-use menu_checks::check_state;
+use menu_checks::Lent;
 use player::Player;
 
 // What an edit, a drag and a drop answer. `unchanged`: accepted, and the key has the same bits as before the call, for a drop as at the opening; also a drop
@@ -26,24 +28,33 @@ pub struct Edited {
     pub player: Player,
 }
 
+impl Edited {
+    ghost use Rattle.std.specs.Prelude.{◌≡◌, false};
+    ghost use Rattle.laws.specs.Refusal.{number};
+
+    // The player as it was.
+    pub(crate) fn declined(player: Player, refusal: Refusal) -> Edited
+        ensures refusal { result.refusal ≡ number refusal }
+        ensures unchanged { result.unchanged ≡ false }
+        ensures player { result.player ≡ player }
+    {
+        Edited {
+            refusal: refusal.number(),
+            unchanged: false,
+            player,
+        }
+    }
+}
+
 #[tactic(auto, using(laws::specs::Refused::refused, edit::specs::Accepted::tracked_key, crate::proofs::Sounds::can_edit), unfolding(crate::specs::Rows::edit_table, edit::specs::Edit::edit_rows, edit::specs::Edit::track_rows, laws::specs::Rows::declines, laws::specs::Rows::unless))]
-fn check_edit(
-    p: &Player,
-    s: &[u8],
-    frames: &[f32],
-    values: &[f32],
-    slopes: &[f32],
-    track: u16,
-    key: u16,
-    r: Request,
-) -> Result<Change, Refusal>
-    ensures declined { declined result ≡ declines (edit_table s.now p.now (keys frames.now values.now slopes.now) track key r) }
-    ensures at { IfOk result (λ c. c.at ≡ place s.now track key) }
-    ensures entry { IfOk result (λ c. c.entry ≡ entry_for s.now (keys frames.now values.now slopes.now) track key r) }
-    ensures within { IfOk result (λ c. Within (keys frames.now values.now slopes.now) c.at) }
+fn check_edit(lent: Lent, p: &Player, track: u16, key: u16, r: Request) -> Result<Change, Refusal>
+    ensures declined { declined result ≡ declines (edit_table lent.entry.sheet.now p.now (keys_of lent.entry) track key r) }
+    ensures at { IfOk result (λ c. c.at ≡ place lent.entry.sheet.now track key) }
+    ensures entry { IfOk result (λ c. c.entry ≡ entry_for lent.entry.sheet.now (keys_of lent.entry) track key r) }
+    ensures within { IfOk result (λ c. Within (keys_of lent.entry) c.at) }
     ensures counts { OnOk result (CanEdit p.now) }
 {
-    let ready = check_state(p, s, frames, values, slopes)?;
+    let ready = lent.check_state(p)?;
     check_track(&ready.sheet, p.selection, p.drag.open, track, key)?;
     requested(&ready, track, key, r)
 }
@@ -62,7 +73,7 @@ fn edit(
 ) -> Edited
     ensures { gave_edit result (keys frames.new values.new slopes.new) ≡ edit_of s.now p (keys frames.old values.old slopes.old) track key r }
 {
-    match check_edit(&p, s, frames, values, slopes, track, key, r) {
+    match check_edit(Lent::new(s, frames, values, slopes), &p, track, key, r) {
         Ok(c) => {
             if same_key(c.entry.after, c.entry.before) {
                 return Edited {
@@ -78,11 +89,7 @@ fn edit(
                 player: p.after_edit(c.entry),
             }
         }
-        Err(e) => Edited {
-            refusal: e.number(),
-            unchanged: false,
-            player: p,
-        },
+        Err(e) => Edited::declined(p, e),
     }
 }
 

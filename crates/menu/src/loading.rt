@@ -1,4 +1,6 @@
 // Loading a sheet, and the name of the animation that follows one.
+// Stays as C has it: an outward call is lent its slices apart, and its refusal is a number.
+// A refusal is told by a match at the call's end: a function over a `Result` would take what the call writes, too.
 ghost use Rattle.std.specs.Prelude.{◌≡◌, IfOk};
 ghost use Rattle.laws.specs.Refusal.{declined};
 ghost use Rattle.laws.specs.Rows.{declines};

@@ -1,4 +1,5 @@
 // Play, pose and tick. Each looks at the player where it is, so that it is copied once, into the answer.
+// Stays as C has it: a refusal is a number, and so is a selection, NONE for none.
 ghost use Rattle.std.specs.Prelude.{◌≡◌, IfOk, OnOk};
 ghost use Rattle.laws.specs.Refusal.{declined};
 ghost use Rattle.laws.specs.Rows.{declines};
@@ -20,6 +21,22 @@ use sheet::Sheet;
 pub struct Played {
     pub refusal: u8,
     pub player: Player,
+}
+
+impl Played {
+    ghost use Rattle.std.specs.Prelude.{◌≡◌};
+    ghost use Rattle.laws.specs.Refusal.{number};
+
+    // The player as it was.
+    pub(crate) fn declined(player: Player, refusal: Refusal) -> Played
+        ensures refusal { result.refusal ≡ number refusal }
+        ensures player { result.player ≡ player }
+    {
+        Played {
+            refusal: refusal.number(),
+            player,
+        }
+    }
 }
 
 #[derive(Clone, Copy)]
@@ -50,10 +67,7 @@ pub fn play(p: Player, s: &[u8], animation: u16) -> Played
             refusal: ACCEPTED,
             player: p.play(animation),
         },
-        Err(e) => Played {
-            refusal: e.number(),
-            player: p,
-        },
+        Err(e) => Played::declined(p, e),
     }
 }
 
@@ -77,10 +91,7 @@ pub fn pose(p: Player, s: &[u8], animation: u16, frame: f32) -> Played
             refusal: ACCEPTED,
             player: p.pose(&sheet, animation, frame),
         },
-        Err(e) => Played {
-            refusal: e.number(),
-            player: p,
-        },
+        Err(e) => Played::declined(p, e),
     }
 }
 

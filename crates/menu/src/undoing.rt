@@ -1,4 +1,5 @@
 // Undo and redo: both take an entry of the journal.
+// Stays as C has it: slices are lent apart, down to what writes them (what only looks takes a `Lent`), and a refusal is a number.
 ghost use Rattle.std.specs.Prelude.{◌≡◌, IfOk, OnOk};
 ghost use Rattle.laws.specs.Refusal.{declined};
 ghost use Rattle.laws.specs.Rows.{declines};
@@ -6,6 +7,7 @@ ghost use Rattle.edit.specs.Keys.{Within, keys};
 ghost use Rattle.edit.specs.Edit.{place};
 ghost use Rattle.player.specs.Undo.{entry_of};
 ghost use Rattle.player.specs.Counts.{CanTake};
+ghost use Rattle.menu_checks.specs.Lent.{keys_of};
 ghost use Rattle.menu.specs.Rows.{take_table};
 ghost use Rattle.menu.specs.Calls.{gave, take_of, undo_of, redo_of};
 
@@ -15,33 +17,26 @@ use edit::put::put_key;
 use edit::track_key::TrackKey;
 use laws::refusal::ACCEPTED;
 use laws::{Refusal, ask};
-use menu_checks::check_state;
+use menu_checks::Lent;
 use player::Player;
 use player::undo::Way;
 
 #[tactic(auto, using(laws::specs::Refused::refused, player::specs::Takes::entry_sound, crate::proofs::Sounds::can_take, crate::proofs::Sounds::within), unfolding(crate::specs::Rows::take_table, player::specs::Undo::take_rows, edit::specs::Edit::spot_of, laws::specs::Rows::declines, laws::specs::Rows::unless))]
-fn check_take(
-    way: Way,
-    p: &Player,
-    s: &[u8],
-    frames: &[f32],
-    values: &[f32],
-    slopes: &[f32],
-) -> Result<Change, Refusal>
-    ensures declined { declined result ≡ declines (take_table way s.now p.now (keys frames.now values.now slopes.now)) }
-    ensures at { IfOk result (λ c. c.at ≡ place s.now c.entry.track c.entry.key) }
+fn check_take(way: Way, lent: Lent, p: &Player) -> Result<Change, Refusal>
+    ensures declined { declined result ≡ declines (take_table way lent.entry.sheet.now p.now (keys_of lent.entry)) }
+    ensures at { IfOk result (λ c. c.at ≡ place lent.entry.sheet.now c.entry.track c.entry.key) }
     ensures entry { IfOk result (λ c. c.entry ≡ entry_of way p.now) }
-    ensures within { IfOk result (λ c. Within (keys frames.now values.now slopes.now) c.at) }
+    ensures within { IfOk result (λ c. Within (keys_of lent.entry) c.at) }
     ensures counts { OnOk result (CanTake way p.now) }
 {
-    let ready = check_state(p, s, frames, values, slopes)?;
+    let ready = lent.check_state(p)?;
     ask(p.take_fits(&ready, way), Refusal::BrokenState)?;
     ask(!p.drag.open, Refusal::DragState)?;
     ask(p.entries(way) != 0, Refusal::NothingToTake)?;
     let entry = p.entry(way);
     let held = TrackKey::of(&ready, entry.track, entry.key);
     Ok(Change {
-        at: held.spot.at,
+        at: held.near.spot.at,
         entry,
     })
 }
@@ -58,7 +53,7 @@ fn take(
 ) -> Played
     ensures { gave result (keys frames.new values.new slopes.new) ≡ take_of way s.now p (keys frames.old values.old slopes.old) }
 {
-    match check_take(way, &p, s, frames, values, slopes) {
+    match check_take(way, Lent::new(s, frames, values, slopes), &p) {
         Ok(c) => {
             put_key(frames, values, slopes, c.at, c.entry.after);
             Played {
@@ -66,10 +61,7 @@ fn take(
                 player: p.after_take(way),
             }
         }
-        Err(e) => Played {
-            refusal: e.number(),
-            player: p,
-        },
+        Err(e) => Played::declined(p, e),
     }
 }
 

@@ -1,4 +1,5 @@
 // The answers that hold an enum, as structs of numbers, which pass by value to C.
+// Stays in functions: a `From` for u8 may stand only in the enum's own crate, which knows no numbers of C.
 ghost use Rattle.std.specs.Prelude.{◌≡◌};
 ghost use Rattle.menu_c.specs.Answers.{tick_number, kind_of};
 

@@ -1,4 +1,5 @@
 // Dragging a key.
+// Stays as C has it: slices are lent apart, each exported name is one call, and a refusal is a number.
 ghost use Rattle.std.specs.Prelude.{◌≡◌};
 ghost use Rattle.edit.specs.Keys.{keys};
 ghost use Rattle.menu.specs.Calls.{gave, gave_edit, open_of, drag_of, drop_of, abandon_of};

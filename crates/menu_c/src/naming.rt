@@ -1,4 +1,6 @@
 // Names, which the calls of `menu` hand back as a part of the sheet or of the book, copied into a lent output.
+// Stays as C has it: slices are lent apart, each exported name is one call, and a refusal is a number.
+// A refusal is told by a match at the call's end: a function over a `Result` would take what the call writes, too.
 ghost use Rattle.std.specs.Prelude.{◌≡◌, length};
 ghost use Rattle.edit.specs.Keys.{keys};
 ghost use Rattle.menu.specs.Calls.{wrote, written_by};

@@ -1,4 +1,5 @@
 // Loading, play, pose and tick.
+// Stays as C has it: slices are lent apart, each exported name is one call, and a refusal is a number.
 ghost use Rattle.std.specs.Prelude.{◌≡◌};
 ghost use Rattle.edit.specs.Keys.{keys};
 ghost use Rattle.menu.specs.Calls.{gave, loaded_of, play_of, pose_of, tick_of};

@@ -1,4 +1,5 @@
 // What differing keys reach.
+// Stays as C has it: slices are lent apart, each exported name is one call, and a refusal is a number.
 ghost use Rattle.std.specs.Prelude.{◌≡◌};
 ghost use Rattle.edit.specs.Keys.{keys};
 ghost use Rattle.reach.specs.Calls.{gave_marks, reach_of};

@@ -1,4 +1,5 @@
 // The readings: one channel, all channels, resolving, and the cascade.
+// Stays as C has it: slices are lent apart, each exported name is one call, and a refusal is a number.
 ghost use Rattle.std.specs.Prelude.{◌≡◌};
 ghost use Rattle.edit.specs.Keys.{keys};
 ghost use Rattle.menu_readings.specs.Readings.{read_pane_of, read_material_of, gave_tables, read_all_of, resolve_pane_of, resolve_srt_of, gave_cascade, cascade_of};

@@ -1,6 +1,7 @@
 // How much a sheet and a book hold, for callers that size their arrays by it. Declined by the layout alone.
+// Stays a number, the refusal in each answer: C reads it.
 ghost use Rattle.std.specs.Prelude.{◌≡◌};
-ghost use Rattle.menu_checks.specs.Counts.{no_sheet_counts, no_book_counts, sheet_counts_by, book_counts_by, sheet_counts_of, book_counts_of};
+ghost use Rattle.menu_checks.specs.Counts.{sheet_counts_by, book_counts_by, sheet_counts_of, book_counts_of};
 
 use book::Book;
 use laws::refusal::ACCEPTED;
@@ -68,7 +69,7 @@ fn of_book(book: &Book) -> BookCounts
         refusal: ACCEPTED,
         panes: book.pane_count() as u16,
         materials: book.material_count() as u16,
-        channels: channel::channel_count(book.bytes) as u16,
+        channels: channel::channel_count(book) as u16,
     }
 }
 

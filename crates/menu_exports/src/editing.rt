@@ -1,4 +1,5 @@
 // Edits, undo, redo and saving.
+// Stays as C has it: slices are lent apart, each exported name is one call, and a refusal is a number.
 ghost use Rattle.std.specs.Prelude.{◌≡◌};
 ghost use Rattle.edit.specs.Keys.{keys};
 ghost use Rattle.menu.specs.Calls.{gave, gave_edit, wrote, edit_of, undo_of, redo_of, save_of};

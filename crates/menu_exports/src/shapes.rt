@@ -1,4 +1,5 @@
 // UVs and corners.
+// Stays as C has it: a refusal is a number.
 ghost use Rattle.std.specs.Prelude.{◌≡◌};
 ghost use Rattle.uv.specs.Calls.{filled, uvs_of};
 ghost use Rattle.corner.specs.Calls.{placed_of, moved_of, turned_of};

@@ -4,6 +4,8 @@ use Rattle.std.specs.Prelude.{ℕ, ◌&&◌, List, [], ◌∷◌, ◌++◌, eqb,
 use Rattle.laws.specs.Rows.{Row, row}
 use Rattle.book.specs.Sizes.{pane_count, material_count}
 use Rattle.channel.specs.Channel.{pane_channels, material_channels, material_layers, channel_count}
+use Rattle.channel.specs.declared.Reached.{Reached}
+use Rattle.channel.specs.declared.Reached.TheVariants as reached
 use Rattle.edit.specs.Keys.{Keys}
 use Rattle.player.specs.declared.Player.{Player}
 use Rattle.menu_checks.specs.Rows.{reading_rows}
@@ -19,6 +21,11 @@ pane_channel_rows b pane c = row 7 (ltb pane (pane_count b) && ltb c pane_channe
 
 unfoldable pub material_channel_rows : List ℕ → ℕ → ℕ → List Row
 material_channel_rows b m c = row 7 (ltb m (material_count b) && ltb c material_channels) ∷ []
+
+-- either, of a row of the book
+abbrev pub row_channel_rows : List ℕ → Reached → ℕ → List Row
+row_channel_rows b (reached.Pane p) c = pane_channel_rows b p c
+row_channel_rows b (reached.Material m) c = material_channel_rows b m c
 
 -- a material's layer, and its texture slot: as many of each
 unfoldable pub layer_rows : List ℕ → ℕ → ℕ → List Row
@@ -39,6 +46,10 @@ module _ (s b : List ℕ) (p : Player) (ks : Keys) where
 
   unfoldable pub read_material_table : ℕ → ℕ → List Row
   read_material_table m c = reading_rows s b p ks ++ material_channel_rows b m c
+
+  -- either, of a row of the book
+  unfoldable pub read_table : Reached → ℕ → List Row
+  read_table row c = reading_rows s b p ks ++ row_channel_rows b row c
 
   unfoldable pub read_all_table : List ℕ → List Float → List Row
   read_all_table marks numbers = reading_rows s b p ks ++ tables_rows b marks numbers

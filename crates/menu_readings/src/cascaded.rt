@@ -1,9 +1,12 @@
 // The cascade over the panes, by parent.
+// Stays as C has it: slices are lent apart, and a refusal is a number. A refusal is told by a match at the call's end: a function over a `Result` would take what the call writes, too.
 ghost use Rattle.std.specs.Prelude.{◌≡◌, length, IfOk, OnOk};
 ghost use Rattle.laws.specs.Refusal.{declined};
 ghost use Rattle.laws.specs.Rows.{declines};
 ghost use Rattle.book.specs.Sizes.{pane_count};
 ghost use Rattle.edit.specs.Keys.{keys};
+ghost use Rattle.menu_checks.specs.Lent.{keys_of};
+ghost use Rattle.menu_readings.specs.Lent.{MenuOf};
 ghost use Rattle.menu_readings.specs.Rows.{cascade_table};
 ghost use Rattle.menu_readings.specs.Readings.{gave_cascade, cascade_of};
 
@@ -11,32 +14,26 @@ use crate::active_in;
 use crate::checked::check_menu;
 use laws::refusal::ACCEPTED;
 use laws::{Refusal, ask};
+use menu_checks::Lent;
 use player::Player;
 use reading::Menu;
 
 #[tactic(auto, using(laws::specs::Refused::refused), unfolding(crate::specs::Rows::cascade_table, crate::specs::Rows::cascade_rows, laws::specs::Rows::declines, laws::specs::Rows::unless))]
 fn check_cascade<'a>(
-    p: &Player,
-    s: &'a [u8],
+    lent: Lent<'a>,
     b: &'a [u8],
-    frames: &'a [f32],
-    values: &'a [f32],
-    slopes: &'a [f32],
+    p: &Player,
     visible: &[u8],
     alpha: &[f32],
     influence: &[f32],
 ) -> Result<Menu<'a>, Refusal>
-    ensures declined { declined result ≡ declines (cascade_table s.now b.now p.now (keys frames.now values.now slopes.now) visible.now alpha.now influence.now) }
-    ensures sheet { IfOk result (λ m. m.ready.sheet.bytes.now ≡ s.now) }
-    ensures book { IfOk result (λ m. m.book.bytes.now ≡ b.now) }
-    ensures frames { IfOk result (λ m. m.ready.keys.frames.now ≡ frames.now) }
-    ensures values { IfOk result (λ m. m.ready.keys.values.now ≡ values.now) }
-    ensures slopes { IfOk result (λ m. m.ready.keys.slopes.now ≡ slopes.now) }
+    ensures declined { declined result ≡ declines (cascade_table lent.entry.sheet.now b.now p.now (keys_of lent.entry) visible.now alpha.now influence.now) }
+    ensures lent { IfOk result (λ m. MenuOf m lent.entry b.now) }
     ensures visible_long { OnOk result (length visible.now ≡ pane_count b.now) }
     ensures alpha_long { OnOk result (length alpha.now ≡ pane_count b.now) }
     ensures influence_long { OnOk result (length influence.now ≡ pane_count b.now) }
 {
-    let menu = check_menu(p, s, b, frames, values, slopes)?;
+    let menu = check_menu(lent, b, p)?;
     let n = menu.book.pane_count();
     ask(
         (visible.len() == n) & (alpha.len() == n) & (influence.len() == n),
@@ -60,9 +57,10 @@ pub fn cascade(
 ) -> u8
     ensures { gave_cascade result visible.new alpha.new influence.new ≡ cascade_of s.now b.now p (keys frames.now values.now slopes.now) visible.old alpha.old influence.old }
 {
-    match check_cascade(&p, s, b, frames, values, slopes, visible, alpha, influence) {
+    let lent = Lent::new(s, frames, values, slopes);
+    match check_cascade(lent, b, &p, visible, alpha, influence) {
         Ok(menu) => {
-            resolve::cascade_rows(&menu, active_in(&p), visible, alpha, influence);
+            resolve::cascade(&menu, active_in(&p), visible, alpha, influence);
             ACCEPTED
         }
         Err(e) => e.number(),

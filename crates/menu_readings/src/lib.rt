@@ -21,7 +21,7 @@ pub use resolved::{
 pub use single::{ReadOne, read_material, read_pane};
 pub use whole::read_all;
 
-// What is active: nothing without a selection or a preview.
+// What is active: nothing without a selection or a preview. Stays a comparison: C has the player's selection, with a number for none.
 #[tactic(auto, unfolding(crate::specs::Readings::active_in))]
 pub fn active_in(p: &Player) -> Option<At>
     ensures { result ≡ active_in (view_of p.now) }

@@ -1,22 +1,28 @@
 // Resolving: the override, else the book's; a pane, a material's layer, a material slot's texture name.
+// Stays with the slices apart outside, and with the number of a refusal in the results: so C lends and reads them.
 ghost use Rattle.std.specs.Prelude.{◌≡◌, ◌<◌, IfOk, OnOk};
 ghost use Rattle.laws.specs.Refusal.{declined};
 ghost use Rattle.laws.specs.Rows.{declines};
 ghost use Rattle.book.specs.Sizes.{pane_count, material_count};
 ghost use Rattle.channel.specs.Channel.{material_layers};
 ghost use Rattle.edit.specs.Keys.{keys};
+ghost use Rattle.menu_checks.specs.Lent.{keys_of};
+ghost use Rattle.menu_readings.specs.Lent.{MenuOf};
 ghost use Rattle.menu_readings.specs.Rows.{resolve_pane_table, resolve_srt_table, texture_name_table};
 ghost use Rattle.menu_readings.specs.Readings.{resolve_pane_of, resolve_srt_of, texture_name_of, no_transform, no_pane, no_layer};
 
 use crate::active_in;
 use crate::checked::check_menu;
+use book::Book;
 use channel::MATERIAL_LAYERS;
 use float::{Srt, Vector2, Vector3};
 use laws::refusal::ACCEPTED;
 use laws::{Refusal, ask};
+use menu_checks::Lent;
 use player::Player;
 use reading::Menu;
 use resolve::{Transform, resolve_alpha, resolve_transform, resolve_visible};
+use sheet::Sheet;
 
 // A pane's transform, visibility and alpha, the override or else the book's.
 #[repr(C)]
@@ -65,24 +71,12 @@ fn no_pane(n: u8) -> ResolvedPane
 }
 
 #[tactic(auto, using(laws::specs::Refused::refused), unfolding(crate::specs::Rows::resolve_pane_table, crate::specs::Rows::pane_rows, laws::specs::Rows::declines, laws::specs::Rows::unless))]
-fn check_pane<'a>(
-    p: &Player,
-    s: &'a [u8],
-    b: &'a [u8],
-    frames: &'a [f32],
-    values: &'a [f32],
-    slopes: &'a [f32],
-    pane: usize,
-) -> Result<Menu<'a>, Refusal>
-    ensures declined { declined result ≡ declines (resolve_pane_table s.now b.now p.now (keys frames.now values.now slopes.now) pane) }
-    ensures sheet { IfOk result (λ m. m.ready.sheet.bytes.now ≡ s.now) }
-    ensures book { IfOk result (λ m. m.book.bytes.now ≡ b.now) }
-    ensures frames { IfOk result (λ m. m.ready.keys.frames.now ≡ frames.now) }
-    ensures values { IfOk result (λ m. m.ready.keys.values.now ≡ values.now) }
-    ensures slopes { IfOk result (λ m. m.ready.keys.slopes.now ≡ slopes.now) }
+fn check_pane<'a>(lent: Lent<'a>, b: &'a [u8], p: &Player, pane: usize) -> Result<Menu<'a>, Refusal>
+    ensures declined { declined result ≡ declines (resolve_pane_table lent.entry.sheet.now b.now p.now (keys_of lent.entry) pane) }
+    ensures lent { IfOk result (λ m. MenuOf m lent.entry b.now) }
     ensures pane { OnOk result (pane < pane_count b.now) }
 {
-    let menu = check_menu(p, s, b, frames, values, slopes)?;
+    let menu = check_menu(lent, b, p)?;
     ask(pane < menu.book.pane_count(), Refusal::NoSuchRow)?;
     Ok(menu)
 }
@@ -101,7 +95,8 @@ pub fn resolve_pane(
     ensures { result ≡ resolve_pane_of s.now b.now p (keys frames.now values.now slopes.now) pane }
 {
     let i = pane as usize;
-    match check_pane(&p, s, b, frames, values, slopes, i) {
+    let lent = Lent::new(s, frames, values, slopes);
+    match check_pane(lent, b, &p, i) {
         Ok(menu) => {
             let active = active_in(&p);
             ResolvedPane {
@@ -118,25 +113,18 @@ pub fn resolve_pane(
 // The rows of a material's layer, and of its texture slot: there are as many of each.
 #[tactic(auto, using(laws::specs::Refused::refused), unfolding(crate::specs::Rows::resolve_srt_table, crate::specs::Rows::layer_rows, laws::specs::Rows::declines, laws::specs::Rows::unless))]
 fn check_layer<'a>(
-    p: &Player,
-    s: &'a [u8],
+    lent: Lent<'a>,
     b: &'a [u8],
-    frames: &'a [f32],
-    values: &'a [f32],
-    slopes: &'a [f32],
+    p: &Player,
     material: usize,
     layer: usize,
 ) -> Result<Menu<'a>, Refusal>
-    ensures declined { declined result ≡ declines (resolve_srt_table s.now b.now p.now (keys frames.now values.now slopes.now) material layer) }
-    ensures sheet { IfOk result (λ m. m.ready.sheet.bytes.now ≡ s.now) }
-    ensures book { IfOk result (λ m. m.book.bytes.now ≡ b.now) }
-    ensures frames { IfOk result (λ m. m.ready.keys.frames.now ≡ frames.now) }
-    ensures values { IfOk result (λ m. m.ready.keys.values.now ≡ values.now) }
-    ensures slopes { IfOk result (λ m. m.ready.keys.slopes.now ≡ slopes.now) }
+    ensures declined { declined result ≡ declines (resolve_srt_table lent.entry.sheet.now b.now p.now (keys_of lent.entry) material layer) }
+    ensures lent { IfOk result (λ m. MenuOf m lent.entry b.now) }
     ensures material { OnOk result (material < material_count b.now) }
     ensures layer { OnOk result (layer < material_layers) }
 {
-    let menu = check_menu(p, s, b, frames, values, slopes)?;
+    let menu = check_menu(lent, b, p)?;
     ask(
         material < menu.book.material_count() && layer < MATERIAL_LAYERS,
         Refusal::NoSuchRow,
@@ -174,7 +162,8 @@ pub fn resolve_srt(
 {
     let i = material as usize;
     let k = layer as usize;
-    match check_layer(&p, s, b, frames, values, slopes, i, k) {
+    let lent = Lent::new(s, frames, values, slopes);
+    match check_layer(lent, b, &p, i, k) {
         Ok(menu) => ResolvedSrt {
             refusal: ACCEPTED,
             srt: resolve::resolve_srt(&menu, active_in(&p), i, k),
@@ -183,15 +172,16 @@ pub fn resolve_srt(
     }
 }
 
-// The 24-byte name of a material's texture slot: the sheet's where it is overridden, else the book's. Refusals 1 to 5, 7.
+// The 24-byte name of a material's texture slot: the sheet's where it is overridden, else the book's. It is part of one of these two, so it outlives the keys.
+// Refusals 1 to 5, 7.
 #[tactic(auto, using(laws::specs::Refused::refused), unfolding(crate::specs::Readings::texture_name_of, crate::specs::Rows::texture_name_table, crate::specs::Rows::resolve_srt_table))]
 pub fn find_texture_name<'a>(
     p: &Player,
     s: &'a [u8],
     b: &'a [u8],
-    frames: &'a [f32],
-    values: &'a [f32],
-    slopes: &'a [f32],
+    frames: &[f32],
+    values: &[f32],
+    slopes: &[f32],
     material: u16,
     slot: u16,
 ) -> Result<&'a [u8], Refusal>
@@ -200,8 +190,11 @@ pub fn find_texture_name<'a>(
 {
     let i = material as usize;
     let k = slot as usize;
-    let menu = check_layer(p, s, b, frames, values, slopes, i, k)?;
-    Ok(resolve::texture_name(&menu, active_in(p), i, k))
+    let menu = check_layer(Lent::new(s, frames, values, slopes), b, p, i, k)?;
+    let sheet = Sheet { bytes: s };
+    let book = Book { bytes: b };
+    let keys = menu.ready.keys;
+    Ok(resolve::texture_name(sheet, book, keys, active_in(p), i, k))
 }
 
 // The same, and empty where the call is declined.
@@ -210,9 +203,9 @@ pub fn texture_name<'a>(
     p: Player,
     s: &'a [u8],
     b: &'a [u8],
-    frames: &'a [f32],
-    values: &'a [f32],
-    slopes: &'a [f32],
+    frames: &[f32],
+    values: &[f32],
+    slopes: &[f32],
     material: u16,
     slot: u16,
 ) -> &'a [u8]

@@ -16,7 +16,7 @@ use keys::Ready;
 use sheet::Sheet;
 
 // `open` while a key is held, `moved` once a drag was accepted; the key's row, and the key as it was at opening. Closed, each is 0.
-// A flag beside them, and no option, as the struct passes to C.
+// Stays a struct with the flag `open`, and no option: it passes to C.
 #[repr(C)]
 #[derive(Clone, Copy)]
 pub struct Drag {
@@ -104,7 +104,10 @@ impl Drag {
         requires { drag_ok ready.now.sheet.bytes.now self ≡ true }
         ensures { result ≡ drag_fits ready.now.sheet.bytes.now (keys ready.now.keys.frames.now ready.now.keys.values.now ready.now.keys.slopes.now) self }
     {
-        !self.open || TrackKey::of(ready, self.track, self.key).fits(self.start())
+        !self.open
+            || TrackKey::of(ready, self.track, self.key)
+                .near
+                .fits(self.start())
     }
 }
 

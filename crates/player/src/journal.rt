@@ -19,7 +19,7 @@ pub struct Entry {
     pub after: Key,
 }
 
-// Eight arrays, and not one of entries: the layout that C has.
+// Stays eight arrays, and not one of entries: the layout that C has.
 #[repr(C)]
 #[derive(Clone, Copy)]
 pub struct Journal {

@@ -16,7 +16,7 @@ use edit::NONE;
 use journal::Journal;
 
 // `selection` is an animation's number, or NONE. `reach` is how many standing edits can be undone, `redo` how many undone ones can be made
-// again; `standing` counts the edits that stand. Numbers and arrays only, so that the struct passes by value to Rust and C.
+// again; `standing` counts the edits that stand. Stays numbers and arrays: the struct passes by value to C.
 #[repr(C)]
 #[derive(Clone, Copy)]
 pub struct Player {

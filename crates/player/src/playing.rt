@@ -1,9 +1,10 @@
 // Play, pose and tick: they move the selection, the frame, playing and preview, and nothing else.
-ghost use Rattle.std.specs.Prelude.{◌≡◌, cond, Some, None};
-ghost use Rattle.sheet.specs.Rows.{animation_row};
+// Stays a number: a selection, NONE for none, since C reads the player.
+ghost use Rattle.std.specs.Prelude.{◌≡◌, ◌<◌};
+ghost use Rattle.sheet.specs.Sizes.{animation_count};
 ghost use Rattle.player.specs.Parts.{view_of, with_view};
-ghost use Rattle.player.specs.View.{play_view, pose_view, ticks, tick_sum, tick_moves};
-ghost use Rattle.player.specs.Ticked.{stepped_of, Selected, row_count, row_wraps, row_frame, row_ends, row_end};
+ghost use Rattle.player.specs.View.{play_view, pose_view, ticks, tick_sum, tick_frame, tick_ends, tick_moves};
+ghost use Rattle.player.specs.Ticked.{stepped_of, Selected, row_count, row_wraps, row_end};
 
 use crate::{Player, Tick};
 use edit::NONE;
@@ -51,59 +52,54 @@ impl Player {
         self
     }
 
-    // The animation of a playing tick: something is selected, and plays.
+    // A playing tick: something is selected, and plays.
     #[tactic(auto, unfolding(crate::specs::View::ticks))]
-    fn ticking(&self, sheet: &Sheet) -> Option<Animation>
-        requires { Selected sheet.now.bytes.now self.now }
-        ensures { result ≡ cond (ticks (view_of self.now)) (Some (animation_row sheet.now.bytes.now self.now.selection)) None }
+    pub fn ticks(&self) -> bool
+        ensures { result ≡ ticks (view_of self.now) }
     {
-        if (self.selection != NONE) & self.playing {
-            Some(sheet.animation(self.selection as usize))
-        } else {
-            None
-        }
+        (self.selection != NONE) & self.playing
     }
 
     #[tactic(auto, unfolding(crate::specs::View::tick_sum))]
-    fn tick_sum(&self, dt: f32, fps: f32) -> f32
+    pub fn tick_sum(&self, dt: f32, fps: f32) -> f32
         ensures { result ≡ tick_sum (view_of self.now) dt fps }
     {
         self.frame + dt * fps
     }
 
     // Row 8 of a playing tick: the sum, and the frame that it would leave, are finite. An idle tick has neither.
-    #[tactic(auto, unfolding(crate::specs::View::tick_moves, crate::specs::View::tick_frame, crate::specs::View::wraps, crate::specs::View::count_of))]
+    #[tactic(auto, using(crate::specs::Ticked::tick_animation), unfolding(crate::specs::View::tick_moves))]
     pub fn tick_moves(&self, sheet: &Sheet, dt: f32, fps: f32) -> bool
         requires { Selected sheet.now.bytes.now self.now }
         ensures { result ≡ tick_moves sheet.now.bytes.now (view_of self.now) dt fps }
     {
-        match self.ticking(sheet) {
-            Some(row) => {
-                let sum = self.tick_sum(dt, fps);
-                is_finite(sum) & is_finite(tick_frame(row, sum))
-            }
-            None => true,
+        if !self.ticks() {
+            return true;
         }
+        let sum = self.tick_sum(dt, fps);
+        is_finite(sum) & is_finite(tick_frame(sheet, self.selection as usize, sum))
     }
 
     // A tick whose numbers are finite. Nothing moves unless something is selected and plays.
-    #[tactic(auto, unfolding(crate::specs::View::tick_view, crate::specs::View::tick_answer, crate::specs::View::tick_frame, crate::specs::View::tick_ends, crate::specs::View::wraps, crate::specs::View::count_of, crate::specs::View::end_of, crate::specs::View::ticks))]
+    #[tactic(auto, using(crate::specs::Ticked::tick_animation), unfolding(crate::specs::View::tick_view, crate::specs::View::tick_answer, crate::specs::View::end_of))]
     pub fn tick(mut self, sheet: &Sheet, dt: f32, fps: f32) -> Stepped
         requires { Selected sheet.now.bytes.now self }
         ensures { result ≡ stepped_of sheet.now.bytes.now self dt fps }
     {
-        let answer = match self.ticking(sheet) {
-            Some(row) => {
-                let sum = self.tick_sum(dt, fps);
-                self.frame = tick_frame(row, sum);
-                if tick_ends(row, sum) {
-                    self.playing = false;
-                    end_of(row)
-                } else {
-                    Tick::Running
-                }
-            }
-            None => Tick::Idle,
+        if !self.ticks() {
+            return Stepped {
+                answer: Tick::Idle,
+                player: self,
+            };
+        }
+        let a = self.selection as usize;
+        let sum = self.tick_sum(dt, fps);
+        self.frame = tick_frame(sheet, a, sum);
+        self.playing = !tick_ends(sheet, a, sum);
+        let answer = if self.playing {
+            Tick::Running
+        } else {
+            end_of(sheet.animation(a))
         };
         Stepped {
             answer,
@@ -131,10 +127,13 @@ fn wraps(row: Animation) -> bool
     row.looping & (frame_count(row) > 0.0)
 }
 
-// Where a playing tick leaves the frame.
-fn tick_frame(row: Animation, sum: f32) -> f32
-    ensures { result ≡ row_frame row sum }
+// Where a playing tick of animation a leaves the frame.
+#[tactic(auto, unfolding(crate::specs::View::tick_frame, crate::specs::View::wraps, crate::specs::View::count_of))]
+pub fn tick_frame(sheet: &Sheet, a: usize, sum: f32) -> f32
+    requires { a < animation_count sheet.now.bytes.now }
+    ensures { result ≡ tick_frame sheet.now.bytes.now a sum }
 {
+    let row = sheet.animation(a);
     let count = frame_count(row);
     if count <= sum {
         if wraps(row) {
@@ -147,9 +146,12 @@ fn tick_frame(row: Animation, sum: f32) -> f32
     }
 }
 
-// Whether a playing tick ends the animation.
-fn tick_ends(row: Animation, sum: f32) -> bool
-    ensures { result ≡ row_ends row sum }
+// Whether a playing tick ends animation a.
+#[tactic(auto, unfolding(crate::specs::View::tick_ends, crate::specs::View::wraps, crate::specs::View::count_of))]
+pub fn tick_ends(sheet: &Sheet, a: usize, sum: f32) -> bool
+    requires { a < animation_count sheet.now.bytes.now }
+    ensures { result ≡ tick_ends sheet.now.bytes.now a sum }
 {
+    let row = sheet.animation(a);
     (frame_count(row) <= sum) & !wraps(row)
 }

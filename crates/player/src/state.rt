@@ -1,7 +1,7 @@
 // Whether a player's state is broken: row 5 of the table of refusals, as far as it looks at the player alone. The player is looked at where it is, and not copied.
-ghost use Rattle.std.specs.Prelude.{◌≡◌, ◌-◌, ◌+◌, true};
-ghost use Rattle.laws.specs.Below.{all_below};
-ghost use Rattle.player.specs.Player.{selection_ok, used_ok, counts_ok, player_ok};
+// Stays a number: a selection, NONE for none, since C reads the player.
+ghost use Rattle.std.specs.Prelude.{◌≡◌, true};
+ghost use Rattle.player.specs.Player.{selection_ok, counts_ok, numbers_ok, all_used_ok, player_ok};
 
 use crate::Player;
 use crate::journal::ROWS;
@@ -36,23 +36,27 @@ impl Player {
             && self.accepted + self.redone == self.undone + self.standing
     }
 
+    // The selection, the frame, the counts and the drag.
+    #[tactic(auto, unfolding(crate::specs::Player::numbers_ok))]
+    pub fn numbers_ok(&self, sheet: &Sheet) -> bool
+        ensures { result ≡ numbers_ok sheet.now.bytes.now self.now }
+    {
+        self.selection_ok(sheet) && is_finite(self.frame) && self.counts_ok() && self.drag.ok(sheet)
+    }
+
     // The journal's used rows each name a key of the sheet.
-    #[tactic(auto, using(crate::specs::Sound::counts))]
-    fn used_ok(&self, sheet: &Sheet) -> bool
-        requires { counts_ok self.now.reach self.now.redo self.now.accepted self.now.undone self.now.redone self.now.standing ≡ true }
-        ensures { result ≡ all_below (self.now.reach + self.now.redo) (used_ok sheet.now.bytes.now self.now.journal (self.now.standing - self.now.reach)) }
+    #[tactic(auto, using(crate::specs::Sound::own_counts))]
+    pub fn used_ok(&self, sheet: &Sheet) -> bool
+        requires { numbers_ok sheet.now.bytes.now self.now ≡ true }
+        ensures { result ≡ all_used_ok sheet.now.bytes.now self.now }
     {
         self.journal.names_keys(sheet, self.standing - self.reach, self.standing + self.redo)
     }
 
-    #[tactic(auto, unfolding(crate::specs::Player::player_ok))]
+    #[tactic(auto, using(crate::specs::Sound::numbers_not, crate::proofs::Whole::used_left))]
     pub fn is_sound(&self, sheet: &Sheet) -> bool
         ensures { result ≡ player_ok sheet.now.bytes.now self.now }
     {
-        self.selection_ok(sheet)
-            && is_finite(self.frame)
-            && self.counts_ok()
-            && self.used_ok(sheet)
-            && self.drag.ok(sheet)
+        self.numbers_ok(sheet) && self.used_ok(sheet)
     }
 }

@@ -19,7 +19,7 @@ pub enum Way {
 }
 
 impl Entry {
-    // An entry that finds the key as this one leaves it, and leaves it as this one finds it.
+    // An entry that finds the key as this one leaves it, and leaves it as this one finds it. Stays a function: it is no conversion to another type.
     fn turned(self) -> Entry
         ensures { result ≡ turned self }
     {
@@ -32,13 +32,22 @@ impl Entry {
 
     // Whether the entry may be taken: its key is, bit for bit, as the entry finds it, and may stand there as the entry leaves it.
     #[tactic(auto, using(crate::specs::Takes::takes_checked))]
-    fn fits(self, ready: &Ready) -> bool
+    pub fn fits(self, ready: &Ready) -> bool
         requires { entry_ok ready.now.sheet.bytes.now self ≡ true }
         ensures { result ≡ takes_ok ready.now.sheet.bytes.now (keys ready.now.keys.frames.now ready.now.keys.values.now ready.now.keys.slopes.now) self }
     {
         let key = TrackKey::of(ready, self.track, self.key);
-        same_key(key.key(), self.before) && key.fits(self.after)
+        same_key(key.key(), self.before) && key.near.fits(self.after)
     }
+}
+
+// Row 5 of an undo or a redo that takes e, the first of so many entries: there is none, or it may be taken. While a drag is open, nothing is asked.
+#[tactic(auto, unfolding(crate::specs::Undo::take_fits))]
+pub fn take_fits(ready: &Ready, dragging: bool, count: u64, e: Entry) -> bool
+    requires { (count ≡ 0 → ⊥) → entry_ok ready.now.sheet.bytes.now e ≡ true }
+    ensures { result ≡ take_fits ready.now.sheet.bytes.now (keys ready.now.keys.frames.now ready.now.keys.values.now ready.now.keys.slopes.now) dragging count e }
+{
+    dragging || count == 0 || e.fits(ready)
 }
 
 impl Player {
@@ -52,13 +61,13 @@ impl Player {
         }
     }
 
-    // Row 5 of an undo or a redo: there is no entry to take, or it may be taken. While a drag is open, nothing is asked.
-    #[tactic(auto, using(crate::specs::Takes::entry_sound), unfolding(crate::specs::Undo::take_fits))]
+    // The same of the entry that the player takes.
+    #[tactic(auto, using(crate::specs::Takes::entry_sound))]
     pub fn take_fits(&self, ready: &Ready, way: Way) -> bool
         requires { player_ok ready.now.sheet.bytes.now self.now ≡ true }
         ensures { result ≡ take_fits ready.now.sheet.bytes.now (keys ready.now.keys.frames.now ready.now.keys.values.now ready.now.keys.slopes.now) self.now.drag.open (entries way self.now) (entry_of way self.now) }
     {
-        self.drag.open || self.entries(way) == 0 || self.entry(way).fits(ready)
+        take_fits(ready, self.drag.open, self.entries(way), self.entry(way))
     }
 
     // The entry that is taken. With no standing edit an undo's is the journal's first row, which nothing takes.

@@ -1,23 +1,41 @@
-// Whether a track reads differently with other keys.
+// Whether a track reads differently with other keys. Stays with the slices apart, and with a number: so C lends and reads them.
+ghost use Rattle.std.specs.Prelude.{◌<◌};
+ghost use Rattle.sheet.specs.Sizes.{target_count};
+
 use book::Book;
+use keys::Ready;
 use laws::Refusal;
-use reach::TwoSets;
+use reach::{KeyArrays, TwoSets, apart};
 use sheet::Sheet;
 
 fn sets<'a>(
     s: &'a [u8],
     b: &[u8],
-    frames: &'a [f32],
-    values: &'a [f32],
-    slopes: &'a [f32],
-    new_frames: &'a [f32],
-    new_values: &'a [f32],
-    new_slopes: &'a [f32],
+    old: KeyArrays<'a>,
+    new: KeyArrays<'a>,
 ) -> Result<TwoSets<'a>, Refusal> {
     let sheet = Sheet::new(s)?;
     let _ = Book::new(b)?;
-    TwoSets::new(
-        sheet, frames, values, slopes, new_frames, new_values, new_slopes,
+    TwoSets::new(sheet, old, new)
+}
+
+// Whether track t does at frame x.
+#[tactic(auto, using(reading::specs::Ready::keys_row))]
+fn is_apart(sets: &TwoSets<'_>, t: usize, x: f32) -> bool
+    requires { t < target_count sets.now.old.sheet.bytes.now }
+{
+    let TwoSets { old, new } = *sets;
+    let Ready { sheet, keys } = old;
+    apart(
+        keys.frames,
+        keys.values,
+        keys.slopes,
+        new.frames,
+        new.values,
+        new.slopes,
+        sheet.target(t),
+        sheet.texture_count(),
+        x,
     )
 }
 
@@ -34,10 +52,18 @@ pub fn probe_apart(
     t: usize,
     x: f32,
 ) -> u8 {
-    match sets(
-        s, b, frames, values, slopes, new_frames, new_values, new_slopes,
-    ) {
-        Ok(sets) if t < sets.old.sheet.target_count() => 1 + u8::from(sets.apart(t, x)),
+    let old = KeyArrays {
+        frames,
+        values,
+        slopes,
+    };
+    let new = KeyArrays {
+        frames: new_frames,
+        values: new_values,
+        slopes: new_slopes,
+    };
+    match sets(s, b, old, new) {
+        Ok(sets) if t < sets.old.sheet.target_count() => 1 + u8::from(is_apart(&sets, t, x)),
         _ => 0,
     }
 }

@@ -1,4 +1,4 @@
-// Whether bytes are a sheet, or a book, whether keys follow the key rules, and loading.
+// Whether bytes are a sheet, or a book, whether keys follow the key rules, and loading. Stays with slices and a number: so C lends and reads them.
 use laws::refusal::ACCEPTED;
 
 pub fn probe_sheet_ok(s: &[u8]) -> bool {

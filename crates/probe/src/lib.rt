@@ -1,6 +1,7 @@
 // Inner functions, for a program that compares them with the Rust on millions of inputs; `probe_exports` exports them. No part of the player.
 // A probe requires nothing: it tests what the function inside requires, and answers 0 where a test fails. It is proved safe and to end, no more: what it
 // answers is compared, and the function inside has a contract of its own.
+// Stays with slices and numbers apart in all its files: so C lends and reads them.
 #![tactic(auto)]
 
 pub mod apart;
@@ -12,7 +13,10 @@ ghost use Rattle.float.specs.Rising.{not_below, rising};
 ghost use Rattle.curve.specs.Curve.{Ordered};
 ghost use Rattle.curve.specs.Kind.{number};
 
-use curve::{HERMITE, Keys, Kind};
+use curve::{Keys, Kind};
+
+// The number of the last kind that there is.
+const LAST_KIND: u8 = 2;
 
 // Whether frame i is not below the one before it; frame 0 is held against itself.
 #[tactic(auto, unfolding(float::specs::Rising::not_below))]
@@ -39,7 +43,7 @@ fn curve_of<'a>(
 ) -> Option<(Kind, Keys<'a>)>
     ensures { IfSome result (λ c. Ordered (number c.0) c.1.frames.now) }
 {
-    if kind > HERMITE {
+    if kind > LAST_KIND {
         return None;
     }
     let keys = Keys::new(frames, values, slopes)?;
@@ -64,7 +68,7 @@ pub fn probe_eval_curve(
     frame: f32,
 ) -> f32 {
     match curve_of(kind, frames, values, slopes) {
-        Some((kind, keys)) => keys.value(kind, frame),
+        Some((kind, keys)) => keys.eval_curve(kind, frame),
         None => 0.0,
     }
 }
@@ -77,7 +81,7 @@ pub fn probe_eval_curve_step_u16(
     frame: f32,
 ) -> u32 {
     match curve_of(kind, frames, values, slopes) {
-        Some((kind, keys)) => float::cut_u16(keys.value(kind, frame)) as u32,
+        Some((kind, keys)) => keys.eval_curve_step_u16(kind, frame) as u32,
         None => 0,
     }
 }

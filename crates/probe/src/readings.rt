@@ -1,4 +1,4 @@
-// A whole reading, without a player.
+// A whole reading, without a player. Stays with the slices apart: so C lends them.
 ghost use Rattle.std.specs.Prelude.{◌≡◌, length, IfOk};
 ghost use Rattle.channel.specs.Channel.{channel_count};
 ghost use Rattle.reading.specs.Plan.{Planned};
@@ -6,7 +6,7 @@ ghost use Rattle.reading.specs.Plan.{Planned};
 use book::Book;
 use keys::Ready;
 use laws::{Refusal, ask};
-use reading::{At, MOST_TARGETS, Menu, Plan};
+use reading::{At, MOST_TARGETS, Menu, Plan, plan_of};
 use sheet::Sheet;
 
 // What can be read into so many marks and numbers: rows 1 to 4 and 13 of the table of refusals decline nothing.
@@ -25,7 +25,7 @@ fn menu_of<'a>(
     let sheet = Sheet::new(s)?;
     let book = Book::new(b)?;
     let ready = Ready::lent(sheet, frames, values, slopes)?;
-    let count = channel::channel_count(b);
+    let count = channel::channel_count(&book);
     ask(marks == count, Refusal::OutputLength)?;
     ask(numbers == count, Refusal::OutputLength)?;
     Ok(Menu { ready, book })
@@ -70,8 +70,9 @@ pub fn probe_read_frames(
     let Ok(menu) = menu_of(s, b, frames, values, slopes, marks.len(), numbers.len()) else {
         return false;
     };
+    // Stays an array of the most: nothing allocates.
     let mut channels = [0u16; MOST_TARGETS];
-    let p = menu.plan_of(animation, &mut channels);
+    let p = plan_of(&menu.ready.sheet, menu.book, animation, &mut channels);
     read_rows(&menu, p, &channels, frame, step, times, marks, numbers);
     true
 }

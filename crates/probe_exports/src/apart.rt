@@ -1,4 +1,5 @@
 // Whether a track reads differently with other keys.
+// Stays with slices and numbers apart, and one export a name: so C calls them.
 
 // 2 where track t reads differently at frame x, 1 where it doesn't.
 #[unsafe(no_mangle)]

@@ -1,4 +1,5 @@
 // Whether bytes are a sheet, or a book, whether keys follow the key rules, and loading.
+// Stays with slices and numbers apart, and one export a name: so C calls them.
 #[unsafe(no_mangle)]
 pub extern "C" fn probe_sheet_ok(s: &[u8]) -> bool {
     probe::formats::probe_sheet_ok(s)

@@ -1,4 +1,5 @@
 // The exports for C and Rust: each hands its arguments on to `probe` and gives the answer on. A slice goes as a pointer and a length.
+// Stays with the slices apart: so C lends them.
 #![tactic(auto)]
 
 mod apart;

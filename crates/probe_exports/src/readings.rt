@@ -1,4 +1,5 @@
 // A whole reading, without a player.
+// Stays with slices and numbers apart, and one export a name: so C calls them.
 
 // The checks and the plan once and then `times` rows, as for a table of frames.
 #[unsafe(no_mangle)]

@@ -15,8 +15,8 @@ use Rattle.channel.specs.Channel.{channel_count, target_channel}
 use Rattle.channel.proofs.Inside.{target_within}
 use Rattle.reading.specs.Reading.{last_target, no_mark}
 use Rattle.channel.specs.Animation.{other_animation}
-use Rattle.reading.specs.Plan.{no_channel, channel_number, Run, Numbered}
-use Rattle.reading.specs.Numbers.{number_fits, number_none, number_at_lem}
+use Rattle.reading.specs.Plan.{numbered_channel, Run, Numbered}
+use Rattle.reading.specs.Numbers.{number_back}
 use Rattle.reading.proofs.Pass.{filled_table}
 use Rattle.reading.specs.declared.plan.Plan.{Plan}
 use Rattle.std.specs.Prelude.{replicate}
@@ -49,34 +49,23 @@ module _ {s b : List ℕ} {ks ls : Keys} {p : Plan} {marks : List ℕ} (r : Run 
   pass_none {i} e k =
       rw e (record { from = omega arith; to = r.order; marked = swept_to (swept_none _ _ _ no_mark (k ∙ filled_table _ _) (λ c. refl)) (omega arith) (before b r) })
 
-  module _ {numbers : List ℕ} {i n : ℕ} (w : Pass s b ks ls p marks i) (h : Numbered s b p numbers p.to) (l : i < p.to) (e : n ≡ get_or numbers i 0) where
-    number : n ≡ channel_number (target_channel s b p.animation i)
-    number = e ∙ h.numbered i w.from l
-
-    pub pass_fits : CheckedBook b → n < 65536
-    pass_fits k = omega (arith, number, number_fits s b p.animation i k)
+  module _ {numbers : List ℕ} {i n : ℕ} {o : Option ℕ} (w : Pass s b ks ls p marks i) (h : Numbered s b p numbers p.to) (l : i < p.to) (e : n ≡ get_or numbers i 0) (k : CheckedBook b) (d : o ≡ numbered_channel n) where
+    channel : o ≡ target_channel s b p.animation i
+    channel = d ∙ ap numbered_channel (e ∙ h.numbered i w.from l) ∙ number_back s b p.animation i k
 
     -- a target that addresses nothing
-    pub pass_past : CheckedBook b → n ≡ no_channel → Pass s b ks ls p marks (i + 1)
-    pass_past k q =
-        record {
-          from = omega (arith, w.from);
-          to = omega arith;
-          marked = swept_past w.marked (number_none s b p.animation i k (sym number ∙ q));
-        }
+    pub pass_past : o ≡ None → Pass s b ks ls p marks (i + 1)
+    pass_past q = record { from = omega (arith, w.from); to = omega arith; marked = swept_past w.marked (sym channel ∙ q) }
 
-    -- a target that addresses channel n
-    addressed : (n ≡ no_channel → ⊥) → target_channel s b p.animation i ≡ Some n
-    addressed q = number_at_lem (target_channel s b p.animation i) (λ z. q (number ∙ z)) ∙ ap Some (sym number)
+    -- a target that addresses channel c
+    pub pass_room : {c : ℕ} → o ≡ Some c → c < length marks
+    pass_room {c} q = let u = target_within s b p.animation i c (sym channel ∙ q) in omega (arith, w.marked.long)
 
-    pub pass_room : (n ≡ no_channel → ⊥) → n < length marks
-    pass_room q = let u = target_within s b p.animation i n (addressed q) in omega (arith, w.marked.long)
-
-    pub pass_at : {same : Bool} {m : ℕ} → (n ≡ no_channel → ⊥) → same ≡ same_track s ks ls i → m ≡ from_bool (not same) → Pass s b ks ls p (set marks n m) (i + 1)
-    pass_at q f d =
-        let g = addressed q in
-        let u = target_within s b p.animation i n g in
-        record { from = omega (arith, w.from); to = omega arith; marked = swept_at w.marked g u (rw f at (d ∙ byte_is _)) }
+    pub pass_at : {c : ℕ} {same : Bool} {m : ℕ} → o ≡ Some c → same ≡ same_track s ks ls i → m ≡ from_bool (not same) → Pass s b ks ls p (set marks c m) (i + 1)
+    pass_at {c} q f r =
+        let g = sym channel ∙ q in
+        let u = target_within s b p.animation i c g in
+        record { from = omega (arith, w.from); to = omega arith; marked = swept_at w.marked g u (rw f at (r ∙ byte_is _)) }
 
   pub pass_all : {i : ℕ} → Pass s b ks ls p marks i → p.to ≤ i → marks ≡ channel_marks s b ks ls p.animation
   unfolding channel_marks touched last_target

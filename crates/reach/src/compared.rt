@@ -1,11 +1,13 @@
 // Whether a target's row reads differently at a frame with other keys, and by how much.
-ghost use Rattle.std.specs.Prelude.{◌≡◌};
+ghost use Rattle.std.specs.Prelude.{◌≡◌, not};
+ghost use Rattle.reading.specs.Reading.{row_reading};
+ghost use Rattle.reading.specs.Ready.{ReadyRow};
 ghost use Rattle.reach.specs.Apart.{same_number, same_reading, change_of};
 
-use crate::TwoSets;
 use reading::{Reading, row_reading};
+use sheet::Target;
 
-// Bit for bit, all NaNs counted as one.
+// Bit for bit, all NaNs counted as one. Stays by hand, since `==` on floats is neither.
 #[tactic(auto, unfolding(crate::specs::Apart::same_number))]
 fn same_number(a: f32, b: f32) -> bool
     ensures { result ≡ same_number a b }
@@ -17,7 +19,7 @@ fn same_number(a: f32, b: f32) -> bool
     }
 }
 
-// The same kind of reading, with the same number, bool, row or level.
+// The same kind of reading, with the same number, bool, row or level. Stays by hand: a derived equality holds NaNs apart and the two zeros together.
 pub fn same_reading(a: Reading, b: Reading) -> bool
     ensures { result ≡ same_reading a b }
 {
@@ -31,26 +33,27 @@ pub fn same_reading(a: Reading, b: Reading) -> bool
     }
 }
 
-impl<'a> TwoSets<'a> {
-    ghost use Rattle.std.specs.Prelude.{◌≡◌, not, ◌<◌};
-    ghost use Rattle.sheet.specs.Sizes.{target_count};
-    ghost use Rattle.reading.specs.Reading.{target_reading};
-    ghost use Rattle.reach.specs.Apart.{same_reading};
-
-    // Whether track t reads differently at x with the second keys.
-    #[tactic(auto, using(reading::specs::Ready::keys_row), unfolding(reading::specs::Reading::target_reading))]
-    pub fn apart(&self, t: usize, x: f32) -> bool
-        requires { t < target_count self.now.old.sheet.bytes.now }
-        ensures { result ≡ not (same_reading (target_reading self.now.old.sheet.bytes.now self.now.old.keys.frames.now self.now.old.keys.values.now self.now.old.keys.slopes.now x t) (target_reading self.now.old.sheet.bytes.now self.now.new.frames.now self.now.new.values.now self.now.new.slopes.now x t)) }
-    {
-        let row = self.old.sheet.target(t);
-        let textures = self.old.sheet.texture_count();
-        let (old, new) = (self.old.keys, self.new);
-        !same_reading(
-            row_reading(old.frames, old.values, old.slopes, x, row, textures),
-            row_reading(new.frames, new.values, new.slopes, x, row, textures),
-        )
-    }
+// Whether the row reads differently at x with the second keys; the sheet has so many texture names.
+// Stays over slices: a row's part has to lie in each, and `Keys` asks that they are of one length.
+pub fn apart(
+    frames: &[f32],
+    values: &[f32],
+    slopes: &[f32],
+    new_frames: &[f32],
+    new_values: &[f32],
+    new_slopes: &[f32],
+    row: Target,
+    textures: usize,
+    x: f32,
+) -> bool
+    requires old { ReadyRow row frames.now values.now slopes.now }
+    requires new { ReadyRow row new_frames.now new_values.now new_slopes.now }
+    ensures { result ≡ not (same_reading (row_reading textures frames.now values.now slopes.now x row) (row_reading textures new_frames.now new_values.now new_slopes.now x row)) }
+{
+    !same_reading(
+        row_reading(frames, values, slopes, x, row, textures),
+        row_reading(new_frames, new_values, new_slopes, x, row, textures),
+    )
 }
 
 // How far the number of b is from that of a, never below 0 where it is a number.

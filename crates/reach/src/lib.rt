@@ -10,9 +10,7 @@ mod sheets;
 mod track;
 
 pub use call::reach;
-pub use channels::touched_channels;
-pub use compared::{change, same_reading};
+pub use compared::{apart, change, same_reading};
 pub use panes::touched_panes;
-pub use sets::TwoSets;
+pub use sets::{KeyArrays, TwoSets};
 pub use sheets::same_sheet;
-pub use track::same_track;

@@ -3,12 +3,11 @@
 ghost use Rattle.std.specs.Prelude.{◌≡◌, ◌+◌, ◌*◌, ◌<◌, ◌≤◌, length};
 ghost use Rattle.std.specs.List.{list_any, range_with_len};
 ghost use Rattle.book.specs.Sizes.{pane_count, no_parent};
-ghost use Rattle.book.specs.Checked.{CheckedBook};
 ghost use Rattle.channel.specs.Channel.{pane_channels, channel_count};
 ghost use Rattle.reach.specs.Touched.{marked, own_marked, pane_marks};
 ghost use Rattle.reach.specs.Ready.{handed_in};
 
-use book::{Book, NO_PARENT};
+use book::{Book, Pane};
 use channel::{ALPHA, PANE_CHANNELS, VISIBLE, of_pane};
 
 // How many panes a book has at most.
@@ -40,16 +39,20 @@ fn own_marked(channels: &[u8], p: usize) -> bool
     some_marked(channels, p, PANE_CHANNELS)
 }
 
-// What the row above hands down, of a table by row. What a root is given never changes.
-#[tactic(auto, unfolding(crate::specs::Ready::handed_in))]
-fn handed_down(table: &[u8], parent: usize) -> bool
-    requires { (parent ≡ no_parent → ⊥) → parent < length table.now }
-    ensures { result ≡ handed_in table.now parent }
+// What the row above a pane's hands down, of a table by row. What a root is given never changes.
+#[tactic(auto, unfolding(crate::specs::Ready::handed_in, book::specs::Rows::parent_of))]
+fn handed_down(table: &[u8], pane: &Pane) -> bool
+    requires { (pane.now.parent ≡ no_parent → ⊥) → pane.now.parent < length table.now }
+    ensures { result ≡ handed_in table.now pane.now.parent }
 {
-    parent != NO_PARENT && table[parent] != 0
+    match pane.above() {
+        Some(p) => table[p] != 0,
+        None => false,
+    }
 }
 
 // Each pane's mark, down the rows; what a row hands its children is kept in two tables, and a parent's row is a smaller one.
+// Stays by index, and the mark a sum: a row reads an earlier row of the tables that it writes, and C reads the mark as one byte of two bits.
 fn descend(
     book: &Book<'_>,
     channels: &[u8],
@@ -65,8 +68,8 @@ fn descend(
 {
     for i in 0..book.pane_count() {
         let pane = book.pane(i);
-        let shown = handed_down(visible, pane.parent);
-        let faded = handed_down(influence, pane.parent);
+        let shown = handed_down(visible, &pane);
+        let faded = handed_down(influence, &pane);
         let own = own_marked(channels, i);
         let shows = marked(channels, i, VISIBLE);
         let fades = marked(channels, i, ALPHA);
@@ -77,17 +80,13 @@ fn descend(
 }
 
 // A mark for each pane: 1 where a channel of its own is marked, and 2 more where its row of the cascade follows the row above it.
-pub fn touched_panes(b: &[u8], channels: &[u8], panes: &mut [u8])
-    requires { CheckedBook b.now × ((length channels.now ≡ channel_count b.now) × (length panes.old ≡ pane_count b.now)) }
-    ensures { panes.new ≡ pane_marks b.now channels.now }
+pub fn touched_panes(book: &Book<'_>, channels: &[u8], panes: &mut [u8])
+    requires channels_len { length channels.now ≡ channel_count book.now.bytes.now }
+    requires panes_len { length panes.old ≡ pane_count book.now.bytes.now }
+    ensures { panes.new ≡ pane_marks book.now.bytes.now channels.now }
 {
+    // Stays two arrays of the most: nothing allocates. Stays numbers, 0 and 1: the definition of what is handed down reads a list of numbers.
     let mut visible = [0u8; MOST_PANES];
     let mut influence = [0u8; MOST_PANES];
-    descend(
-        &Book { bytes: b },
-        channels,
-        &mut visible,
-        &mut influence,
-        panes,
-    );
+    descend(book, channels, &mut visible, &mut influence, panes);
 }

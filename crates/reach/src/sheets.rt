@@ -1,8 +1,9 @@
-// Whether two sheets differ in their keys alone.
+// Whether two sheets differ in their keys alone. Stays by index: of `t[..n] == s[..n]` the proof didn't close.
 ghost use Rattle.std.specs.Prelude.{◌≡◌, ◌≤◌, length};
 ghost use Rattle.laws.specs.Below.{all_below};
-ghost use Rattle.sheet.specs.Checked.{Checked};
 ghost use Rattle.reach.specs.Sheets.{same_byte, same_sheet};
+
+use sheet::Sheet;
 
 // Whether the first n bytes of both are the same.
 #[tactic(auto, unfolding(laws::specs::Below::all_below))]
@@ -14,11 +15,10 @@ fn same_front(s: &[u8], t: &[u8], n: usize) -> bool
     (0..n).all(|i| t[i] == s[i])
 }
 
-// Whether t agrees with the sheet s in length and in every byte before the key arrays.
+// Whether t agrees with a sheet in length and in every byte before the key arrays.
 #[tactic(auto, unfolding(crate::specs::Sheets::same_sheet))]
-pub fn same_sheet(s: &[u8], t: &[u8]) -> bool
-    requires { Checked s.now }
-    ensures { result ≡ same_sheet s.now t.now }
+pub fn same_sheet(sheet: &Sheet<'_>, t: &[u8]) -> bool
+    ensures { result ≡ same_sheet sheet.now.bytes.now t.now }
 {
-    t.len() == s.len() && same_front(s, t, keys::frames_at(s))
+    t.len() == sheet.bytes.len() && same_front(sheet.bytes, t, sheet.frames_at())
 }

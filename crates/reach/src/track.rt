@@ -1,10 +1,4 @@
-// Whether a track has the same keys in two sets of keys of one sheet, bit for bit.
-ghost use Rattle.std.specs.Prelude.{◌≡◌, ◌<◌};
-ghost use Rattle.sheet.specs.Sizes.{target_count};
-ghost use Rattle.edit.specs.Keys.{keys};
-ghost use Rattle.reach.specs.Touched.{same_track};
-ghost use Rattle.reach.specs.Ready.{Compared};
-
+// Whether a track has the same keys in two sets of keys of one sheet. Stays by hand: a key is the same bit for bit, and `==` on floats isn't that.
 use crate::TwoSets;
 use edit::put::same_key;
 
@@ -42,24 +36,4 @@ impl<'a> TwoSets<'a> {
         let row = self.old.sheet.target(t);
         self.same_part(row.first, row.count)
     }
-}
-
-// The same over lent slices.
-pub fn same_track(
-    s: &[u8],
-    frames: &[f32],
-    values: &[f32],
-    slopes: &[f32],
-    new_frames: &[f32],
-    new_values: &[f32],
-    new_slopes: &[f32],
-    t: usize,
-) -> bool
-    requires { Compared s.now (keys frames.now values.now slopes.now) (keys new_frames.now new_values.now new_slopes.now) × (t < target_count s.now) }
-    ensures { result ≡ same_track s.now (keys frames.now values.now slopes.now) (keys new_frames.now new_values.now new_slopes.now) t }
-{
-    TwoSets::lent(
-        s, frames, values, slopes, new_frames, new_values, new_slopes,
-    )
-    .same_track(t)
 }

@@ -26,8 +26,8 @@ use Rattle.sheet.specs.Checked.{Checked}
 use Rattle.keys.specs.Checked.{KeysChecked}
 use Rattle.reading.specs.Ready.{ReadyRow, keys_row}
 use Rattle.reading.specs.Overrides.{none_marked, none_numbered}
-use Rattle.reading.specs.Plan.{no_channel, channel_number, Run, Numbered}
-use Rattle.reading.specs.Numbers.{number_fits, number_none, number_at_lem}
+use Rattle.reading.specs.Plan.{numbered_channel, Run, Numbered}
+use Rattle.reading.specs.Numbers.{number_back}
 use Rattle.reading.specs.Active.{active_at}
 use Rattle.reading.specs.declared.Reading.{Reading}
 use Rattle.reading.specs.declared.plan.Plan.{Plan}
@@ -91,32 +91,26 @@ module _ {s b : List ℕ} {fs vs ss : List Float} {p : Plan} {x : Float} {marks 
         numbered = swept_to (swept_none _ _ _ no_number (q ∙ filled_table _ _) (λ c. refl)) (omega arith) (before b r);
       })
 
-  module _ {channels : List ℕ} {i n : ℕ} (w : Pass s b fs vs ss p x marks numbers i) (h : Numbered s b p channels p.to) (l : i < p.to) (e : n ≡ get_or channels i 0) where
-    number : n ≡ channel_number (target_channel s b p.animation i)
-    number = e ∙ h.numbered i w.from l
-
-    pub pass_fits : CheckedBook b → n < 65536
-    pass_fits k = omega (arith, number, number_fits s b p.animation i k)
+  module _ {channels : List ℕ} {i n : ℕ} {o : Option ℕ} (w : Pass s b fs vs ss p x marks numbers i) (h : Numbered s b p channels p.to) (l : i < p.to) (e : n ≡ get_or channels i 0) (k : CheckedBook b) (d : o ≡ numbered_channel n) where
+    channel : o ≡ target_channel s b p.animation i
+    channel = d ∙ ap numbered_channel (e ∙ h.numbered i w.from l) ∙ number_back s b p.animation i k
 
     -- a target that addresses nothing
-    pub pass_past : CheckedBook b → n ≡ no_channel → Pass s b fs vs ss p x marks numbers (i + 1)
-    pass_past k q =
-        let d = number_none s b p.animation i k (sym number ∙ q) in
-        record { from = omega (arith, w.from); to = omega arith; marked = swept_past w.marked d; numbered = swept_past w.numbered d }
+    pub pass_past : o ≡ None → Pass s b fs vs ss p x marks numbers (i + 1)
+    pass_past q =
+        let g = sym channel ∙ q in
+        record { from = omega (arith, w.from); to = omega arith; marked = swept_past w.marked g; numbered = swept_past w.numbered g }
 
-    -- a target that addresses channel n
-    addressed : (n ≡ no_channel → ⊥) → target_channel s b p.animation i ≡ Some n
-    addressed q = number_at_lem (target_channel s b p.animation i) (λ z. q (number ∙ z)) ∙ ap Some (sym number)
+    -- a target that addresses channel c
+    pub pass_room : {c : ℕ} → o ≡ Some c → (c < length marks) × (c < length numbers)
+    pass_room {c} q = let u = target_within s b p.animation i c (sym channel ∙ q) in (omega (arith, w.marked.long), omega (arith, w.numbered.long))
 
-    pub pass_room : (n ≡ no_channel → ⊥) → (n < length marks) × (n < length numbers)
-    pass_room q = let u = target_within s b p.animation i n (addressed q) in (omega (arith, w.marked.long), omega (arith, w.numbered.long))
-
-    pub pass_at : {row : Target} {m : ℕ} {v : Reading} {marks' : List ℕ} {numbers' : List Float} → (n ≡ no_channel → ⊥) → row ≡ target_row s i → m ≡ texture_count s → v ≡ row_reading m fs vs ss x row → (marks' ≡ set marks n (mark_of v)) × (numbers' ≡ set numbers n (number_of v)) → Pass s b fs vs ss p x marks' numbers' (i + 1)
+    pub pass_at : {c : ℕ} {row : Target} {m : ℕ} {v : Reading} {marks' : List ℕ} {numbers' : List Float} → o ≡ Some c → row ≡ target_row s i → m ≡ texture_count s → v ≡ row_reading m fs vs ss x row → (marks' ≡ set marks c (mark_of v)) × (numbers' ≡ set numbers c (number_of v)) → Pass s b fs vs ss p x marks' numbers' (i + 1)
     unfolding target_reading
-    pass_at q f m d z =
-        let g = addressed q in
-        let u = target_within s b p.animation i n g in
-        let v = rw (m, f) at d in
+    pass_at {c} q f m r z =
+        let g = sym channel ∙ q in
+        let u = target_within s b p.animation i c g in
+        let v = rw (m, f) at r in
         record {
           from = omega (arith, w.from);
           to = omega arith;

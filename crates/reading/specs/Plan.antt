@@ -1,6 +1,6 @@
 -- A plan: what of a whole reading doesn't change from frame to frame. The targets of one animation are one run, since the animations of targets
 -- never fall; the plan has the run's ends, and a list beside it the channel of each of its targets. Definitions only.
-use Rattle.std.specs.Prelude.{ℕ, ◌<◌, ◌≤◌, List, ◌≡◌, length, get_or}
+use Rattle.std.specs.Prelude.{ℕ, ◌<◌, ◌≤◌, cond, List, ◌≡◌, eqb, length, get_or}
 use Rattle.std.specs.Prelude.{Option}
 use Rattle.std.specs.Prelude.{Some, None}
 use Rattle.sheet.specs.Sizes.{target_count}
@@ -15,6 +15,10 @@ no_channel = 65535
 abbrev pub channel_number : Option ℕ → ℕ
 channel_number (Some c) = c
 channel_number None = no_channel
+
+-- and the channel back
+abbrev pub numbered_channel : ℕ → Option ℕ
+numbered_channel n = cond (eqb n no_channel) None (Some n)
 
 -- every target of the plan's animation is from `from` up to `to`
 pub record Run (s : List ℕ) (p : Plan) : Type 0 where

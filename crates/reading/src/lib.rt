@@ -8,7 +8,7 @@ mod value;
 mod whole;
 
 pub use menu::Menu;
-pub use plan::{MOST_TARGETS, NO_CHANNEL, Plan, plan_of};
+pub use plan::{MOST_TARGETS, Plan, numbered_channel, plan_of};
 pub use value::row_reading;
 
 // The active animation and its frame.
@@ -19,7 +19,7 @@ pub struct At {
 }
 
 // What one channel reads: no override, a number, shown or hidden, a row of the sheet's texture names, a colour level.
-// An enum of its own and no option of one: hosts and the command line know these five cases.
+// Stays an enum of its own and no option of one: hosts and the command line know these five cases.
 #[derive(Clone, Copy, Debug)]
 pub enum Reading {
     Nothing,

@@ -2,26 +2,24 @@
 ghost use Rattle.std.specs.Prelude.{◌≡◌, ◌<◌, ◌≤◌, length};
 ghost use Rattle.laws.specs.Parted.{Parted};
 ghost use Rattle.sheet.specs.Sizes.{target_count};
-ghost use Rattle.sheet.specs.Checked.{Checked};
-ghost use Rattle.book.specs.Checked.{CheckedBook};
 ghost use Rattle.channel.specs.Animation.{target_animation};
-ghost use Rattle.reading.specs.Plan.{no_channel, channel_number, Run, Numbered, Planned};
+ghost use Rattle.reading.specs.Plan.{no_channel, channel_number, numbered_channel, Run, Numbered, Planned};
 
-use crate::Menu;
 use book::Book;
-use channel::{Names, row_channel};
+use channel::{Names, labels, material_names, row_channel};
 use sheet::Sheet;
 
 // How many targets a sheet has at most: a plan's channels are lent as so many numbers.
 pub const MOST_TARGETS: usize = 256;
 
-// The number that stands for no channel: 16 bits a target, half of what an option takes, and a row of a plan reads each.
-pub const NO_CHANNEL: u16 = 65535;
+// The number that stands for no channel. Stays a number: an option takes twice the 16 bits that a row of a plan reads of each target.
+const NO_CHANNEL: u16 = 65535;
 
 // From so many contents on an index of names pays, by measurement.
 const MANY: usize = 12;
 
 // The targets of an animation are those from `from` up to `to`. The channel of each is in a lent array, at the target's number.
+// Stays two numbers: a Range is no Copy, and a plan is handed on by value for each frame.
 #[derive(Clone, Copy, Debug)]
 pub struct Plan {
     pub animation: usize,
@@ -37,8 +35,8 @@ fn target_animation(sheet: &Sheet<'_>, t: usize) -> usize
     sheet.content(sheet.target(t).content).animation
 }
 
-// How many targets belong to animations below a: the animations of targets never fall. By halves, written out: `partition_point` wants a slice of
-// rows, and a sheet's are bytes.
+// How many targets belong to animations below a: the animations of targets never fall.
+// Stays by halves, written out: the library's `partition_point` goes over a slice of rows, and a sheet's targets are bytes, 14 to a row.
 #[tactic(auto, using(crate::proofs::Planning::animations_climb, laws::specs::Parted::parted_none, laws::specs::Parted::parted_low, laws::specs::Parted::parted_high, laws::specs::Parted::parted_met))]
 fn targets_below(sheet: &Sheet<'_>, a: usize) -> usize
     ensures { Parted (target_animation sheet.now.bytes.now) (target_count sheet.now.bytes.now) a result result }
@@ -86,6 +84,17 @@ fn channel_number(channel: Option<usize>) -> u16
     }
 }
 
+// The channel with a number of a plan. Stays a comparison: a plan has 16 bits for each, one number of which stands for none.
+pub fn numbered_channel(number: u16) -> Option<usize>
+    ensures { result ≡ numbered_channel number }
+{
+    if number == NO_CHANNEL {
+        None
+    } else {
+        Some(number as usize)
+    }
+}
+
 // Whether the run has so many contents that an index of the book's names pays.
 #[tactic(auto, using(sheet::specs::Checked::target_content_lem))]
 fn many_contents(sheet: &Sheet<'_>, p: Plan) -> bool
@@ -95,7 +104,7 @@ fn many_contents(sheet: &Sheet<'_>, p: Plan) -> bool
 }
 
 // The channel of each target of the run.
-fn number_channels(sheet: &Sheet<'_>, names: &Names<'_>, p: Plan, channels: &mut [u16])
+fn number_channels(sheet: &Sheet<'_>, names: &Names<'_, '_>, p: Plan, channels: &mut [u16])
     requires run { Run sheet.now.bytes.now p }
     requires room { target_count sheet.now.bytes.now ≤ length channels.old }
     ensures { Numbered sheet.now.bytes.now names.now.book.bytes.now p channels.new p.to }
@@ -110,36 +119,28 @@ fn number_channels(sheet: &Sheet<'_>, names: &Names<'_>, p: Plan, channels: &mut
 }
 
 // The plan of animation a.
-fn plan_in(sheet: &Sheet<'_>, book: Book<'_>, a: usize, channels: &mut [u16]) -> Plan
+pub fn plan_of(sheet: &Sheet<'_>, book: Book<'_>, a: usize, channels: &mut [u16]) -> Plan
     requires { target_count sheet.now.bytes.now ≤ length channels.old }
     ensures animation { result.animation ≡ a }
     ensures planned { Planned sheet.now.bytes.now book.entry.bytes.now result channels.new }
 {
     let p = run_of(sheet, a);
-    let many = many_contents(sheet, p);
-    number_channels(sheet, &Names::new(book, many, many), p, channels);
-    p
-}
-
-impl<'a> Menu<'a> {
-    ghost use Rattle.std.specs.Prelude.{◌≡◌, ◌≤◌, length};
-    ghost use Rattle.sheet.specs.Sizes.{target_count};
-    ghost use Rattle.reading.specs.Plan.{Planned};
-
-    // The plan of animation a.
-    pub fn plan_of(&self, a: usize, channels: &mut [u16]) -> Plan
-        requires { target_count self.now.ready.sheet.bytes.now ≤ length channels.old }
-        ensures animation { result.animation ≡ a }
-        ensures planned { Planned self.now.ready.sheet.bytes.now self.now.book.bytes.now result channels.new }
-    {
-        plan_in(&self.ready.sheet, self.book, a, channels)
+    if many_contents(sheet, p) {
+        let panes = labels(&book).index();
+        let materials = material_names(&book).index();
+        let indexed = Names {
+            book,
+            panes: Some(&panes),
+            materials: Some(&materials),
+        };
+        number_channels(sheet, &indexed, p, channels);
+    } else {
+        let plain = Names {
+            book,
+            panes: None,
+            materials: None,
+        };
+        number_channels(sheet, &plain, p, channels);
     }
-}
-
-// The same over lent bytes.
-pub fn plan_of(s: &[u8], b: &[u8], a: usize, channels: &mut [u16]) -> Plan
-    requires { Checked s.now × (CheckedBook b.now × (target_count s.now ≤ length channels.old)) }
-    ensures { (result.animation ≡ a) × Planned s.now b.now result channels.new }
-{
-    plan_in(&Sheet { bytes: s }, Book { bytes: b }, a, channels)
+    p
 }

@@ -28,12 +28,12 @@ impl<'a> Menu<'a> {
         )
     }
 
-    // The last target that does. Counted down by hand: of `(0..n).rev().find(..)` the proof didn't close.
+    // The last target that addresses channel c while animation a is active. Stays counted down by hand: of `(0..n).rev().find(..)` the proof didn't close.
     fn last_target(&self, a: usize, c: usize) -> Option<usize>
         requires { c < channel_count self.now.book.bytes.now }
         ensures { result ≡ last_target self.now.ready.sheet.bytes.now self.now.book.bytes.now a c }
     {
-        let place = place_of(self.book.bytes, c);
+        let place = place_of(&self.book, c);
         let mut end = self.ready.sheet.target_count();
         while 0 < end {
             end -= 1;

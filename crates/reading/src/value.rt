@@ -1,4 +1,5 @@
 // What a target reads, by its family and its curve's value, and a reading as a mark and a number.
+// Stays u8: a mark and a colour level are bytes that C reads.
 ghost use Rattle.std.specs.Prelude.{◌≡◌};
 ghost use Rattle.std.specs.Float.Ieee.{to_unsigned};
 ghost use Rattle.reading.specs.Reading.{level_of, row_of, read_as, value_at, row_reading, mark_of, number_of};
@@ -6,6 +7,7 @@ ghost use Rattle.reading.specs.Ready.{ReadyRow};
 
 use crate::Reading;
 use channel::Family;
+use curve::{Keys, Kind};
 use sheet::Target;
 
 // A colour's level, as the Rust: round, clamp, cast.
@@ -45,16 +47,23 @@ fn read_as(f: Family, v: f32, textures: usize) -> Reading
 }
 
 // The value of a target's curve at frame x.
-#[tactic(auto, unfolding(crate::specs::Reading::value_at))]
+// Stays over three slices: they need not be one length, and `Keys` asks that they are.
+#[tactic(auto, using(curve::specs::Kind::eval_kind, curve::specs::Kind::ordered_kind), unfolding(crate::specs::Reading::value_at))]
+#[inline(always)]
 pub fn row_value(frames: &[f32], values: &[f32], slopes: &[f32], x: f32, row: Target) -> f32
     requires { ReadyRow row frames.now values.now slopes.now }
     ensures { result ≡ value_at frames.now values.now slopes.now x row }
 {
-    let kind = row.curve as u8;
-    curve::eval_part(kind, frames, values, slopes, row.first, row.count, x)
+    let end = row.first + row.count;
+    let part = Keys {
+        frames: &frames[row.first..end],
+        values: &values[row.first..end],
+        slopes: &slopes[row.first..end],
+    };
+    part.eval_curve(Kind::of(row.curve), x)
 }
 
-// What a target's row reads at frame x.
+// What a target's row reads at frame x. Stays over three slices: they need not be one length, and `Keys` asks that they are.
 #[tactic(auto, using(crate::proofs::Pass::read_is))]
 pub fn row_reading(
     frames: &[f32],
@@ -72,7 +81,7 @@ pub fn row_reading(
 }
 
 // The mark of what a family reads, with no reading between: a whole reading has hundreds, and an enum goes through memory. So this and the number
-// beside it are two functions, and no method of a reading.
+// beside it are two functions, and no methods of a reading.
 #[tactic(auto, unfolding(crate::specs::Reading::row_of))]
 pub fn mark_as(f: Family, v: f32, textures: usize) -> u8
     ensures { result ≡ mark_of (read_as f v (to_unsigned 16 v) textures) }

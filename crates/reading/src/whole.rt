@@ -1,10 +1,11 @@
 // The whole reading: a mark and a number for each channel of the book, by a plan and one pass over its targets.
+// Stays a fact beside the plan: a value that holds it would have to hold the sheet and the book too.
 ghost use Rattle.std.specs.Prelude.{◌≡◌, ◌<◌, length, set, replicate};
 ghost use Rattle.std.specs.Float.Ieee.{to_unsigned};
 ghost use Rattle.float.specs.Numbers.{zero'};
 ghost use Rattle.reading.specs.Reading.{read_as, mark_of, number_of};
 
-use crate::plan::{MOST_TARGETS, NO_CHANNEL, Plan};
+use crate::plan::{MOST_TARGETS, Plan, numbered_channel, plan_of};
 use crate::value::{mark_as, number_as, row_value};
 use crate::{At, Menu};
 use channel::Family;
@@ -49,20 +50,12 @@ impl<'a> Menu<'a> {
         let base = sheet::targets_at(s);
         let textures = sheet::texture_count(s);
         for t in p.from..p.to {
-            let c = channels[t];
-            if c == NO_CHANNEL {
+            let Some(c) = numbered_channel(channels[t]) else {
                 continue;
-            }
+            };
             let row = sheet::target_at(s, base + t * sheet::TARGET_BYTES);
             let v = row_value(keys.frames, keys.values, keys.slopes, x, row);
-            put(
-                marks,
-                numbers,
-                c as usize,
-                Family::from(row.code),
-                v,
-                textures,
-            );
+            put(marks, numbers, c, Family::from(row.code), v, textures);
         }
     }
 
@@ -88,8 +81,9 @@ impl<'a> Menu<'a> {
     {
         match active {
             Some(at) => {
+                // Stays an array of the most: nothing allocates.
                 let mut channels = [0u16; MOST_TARGETS];
-                let p = self.plan_of(at.animation, &mut channels);
+                let p = plan_of(&self.ready.sheet, self.book, at.animation, &mut channels);
                 self.read_row(p, &channels, at.frame, marks, numbers);
             }
             None => clear(marks, numbers),

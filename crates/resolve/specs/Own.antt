@@ -19,6 +19,8 @@ use Rattle.channel.specs.declared.Reached.TheVariants as reached
 use Rattle.reading.specs.Reading.{last_target}
 use Rattle.reading.specs.Active.{Active}
 use Rattle.resolve.specs.Resolve.{visible_of, alpha_of}
+use Rattle.resolve.specs.declared.own.Own.{Own}
+use Rattle.resolve.specs.declared.own.Own.TheVariants.{Visible, Alpha}
 
 -- shown is 1, hidden 0
 abbrev pub bit_of : Bool → ℕ
@@ -48,6 +50,15 @@ only_own None = None
 
 unfoldable pub own_channel : Target → Option ℕ
 own_channel row = only_own (pane_channel (family_of row.code) row.raw)
+
+-- the channel of a pane that is one of the two, by number
+abbrev pub own_number : Own → ℕ
+own_number Visible = visible_channel
+own_number Alpha = alpha_channel
+
+abbrev pub own_numbers : Option Own → Option ℕ
+own_numbers (Some o) = Some (own_number o)
+own_numbers None = None
 
 -- the pane that is reached
 abbrev pub pane_in : Option Reached → Option ℕ

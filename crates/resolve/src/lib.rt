@@ -9,7 +9,7 @@ mod rows;
 use float::{Vector2, Vector3};
 pub use name::texture_name;
 pub use over::{resolve_alpha, resolve_srt, resolve_transform, resolve_visible};
-pub use rows::{cascade, cascade_rows};
+pub use rows::cascade;
 
 // The Rust's ResolvedPaneTransform.
 #[repr(C)]

@@ -11,21 +11,25 @@ use channel::{ALPHA, Reached, VISIBLE, of_material, of_pane};
 use float::{Srt, Vector2, Vector3};
 use reading::{At, Menu, Reading};
 
+// A reading's number, or what the book has.
+// Stays a match: a method that gives the number or none would be the same match, with `unwrap_or` on top.
 pub fn or_number(r: Reading, base: f32) -> f32
     ensures { result ≡ or_number r base }
 {
     match r {
         Reading::Number(v) => v,
-        Reading::Nothing | Reading::Shown(_) | Reading::Row(_) | Reading::Level(_) => base,
+        _ => base,
     }
 }
 
+// Whether a reading shows, or what the book has.
+// Stays a match: a method that gives the bool or none would be the same match, with `unwrap_or` on top.
 pub fn or_shown(r: Reading, base: bool) -> bool
     ensures { result ≡ or_shown r base }
 {
     match r {
         Reading::Shown(b) => b,
-        Reading::Nothing | Reading::Number(_) | Reading::Row(_) | Reading::Level(_) => base,
+        _ => base,
     }
 }
 
@@ -38,7 +42,7 @@ fn channel_in(book: &Book<'_>, row: Reached, k: usize) -> usize
 {
     match row {
         Reached::Pane(p) => of_pane(p, k),
-        Reached::Material(m) => of_material(book.bytes, m, k),
+        Reached::Material(m) => of_material(book, m, k),
     }
 }
 

@@ -1,14 +1,15 @@
 // Visible, alpha and influence over all panes by parent (the Rust's inner `update`).
+// Stays over tables apart: lent in a struct of `&mut` slices the proof didn't close, since the call may replace a slice in it.
+// Stays by index: a row reads an earlier row of the tables that it writes.
 ghost use Rattle.std.specs.Prelude.{◌≡◌, map, ◌<◌, length};
 ghost use Rattle.laws.specs.Grown.{grow};
 ghost use Rattle.book.specs.Sizes.{pane_count, no_parent};
-ghost use Rattle.reading.specs.Ready.{Ready};
 ghost use Rattle.resolve.specs.Cascade.{under, row_from, shown_bit, alpha_in, influence_in, visibles, alphas, influences};
 ghost use Rattle.resolve.specs.Tables.{read_above, shown_of, number_in};
 
 use crate::Cascaded;
 use crate::own::own_rows;
-use book::{Book, NO_PARENT};
+use book::{Book, Pane};
 use reading::{At, Menu};
 
 // A row from the one above it.
@@ -27,23 +28,23 @@ fn under(above: Cascaded, visible: bool, alpha: f32, influences: bool) -> Cascad
     }
 }
 
-// The row above, of the rows in three tables; a root is given true and 1.0.
-#[tactic(auto, unfolding(crate::specs::Tables::read_above))]
-fn above(p: usize, visible: &[u8], alpha: &[f32], influence: &[f32]) -> Cascaded
-    requires { (p ≡ no_parent → ⊥) → (p < length visible.now) × ((p < length alpha.now) × (p < length influence.now)) }
-    ensures { result ≡ read_above visible.now alpha.now influence.now p }
+// The row above a pane's, of the rows in three tables; a root is given true and 1.0.
+#[tactic(auto, unfolding(crate::specs::Tables::read_above, book::specs::Rows::parent_of))]
+fn above(pane: &Pane, visible: &[u8], alpha: &[f32], influence: &[f32]) -> Cascaded
+    requires { (pane.now.parent ≡ no_parent → ⊥) → (pane.now.parent < length visible.now) × ((pane.now.parent < length alpha.now) × (pane.now.parent < length influence.now)) }
+    ensures { result ≡ read_above visible.now alpha.now influence.now pane.now.parent }
 {
-    if p == NO_PARENT {
-        return Cascaded {
+    match pane.above() {
+        Some(p) => Cascaded {
+            visible: visible[p] != 0,
+            alpha: alpha[p],
+            influence: influence[p],
+        },
+        None => Cascaded {
             visible: true,
             alpha: 1.0,
             influence: 1.0,
-        };
-    }
-    Cascaded {
-        visible: visible[p] != 0,
-        alpha: alpha[p],
-        influence: influence[p],
+        },
     }
 }
 
@@ -58,7 +59,7 @@ fn descend(book: &Book<'_>, visible: &mut [u8], alpha: &mut [f32], influence: &m
 {
     for i in 0..book.pane_count() {
         let pane = book.pane(i);
-        let over = above(pane.parent, visible, alpha, influence);
+        let over = above(&pane, visible, alpha, influence);
         let row = under(over, visible[i] != 0, alpha[i], pane.influences);
         visible[i] = u8::from(row.visible);
         alpha[i] = row.alpha;
@@ -67,7 +68,7 @@ fn descend(book: &Book<'_>, visible: &mut [u8], alpha: &mut [f32], influence: &m
 }
 
 // The cascade over all panes.
-pub fn cascade_rows(
+pub fn cascade(
     menu: &Menu<'_>,
     active: Option<At>,
     visible: &mut [u8],
@@ -83,26 +84,4 @@ pub fn cascade_rows(
 {
     own_rows(menu, active, visible, alpha);
     descend(&menu.book, visible, alpha, influence);
-}
-
-// The same over lent slices.
-pub fn cascade(
-    s: &[u8],
-    b: &[u8],
-    frames: &[f32],
-    values: &[f32],
-    slopes: &[f32],
-    active: Option<At>,
-    visible: &mut [u8],
-    alpha: &mut [f32],
-    influence: &mut [f32],
-)
-    requires ready { Ready s.now b.now frames.now values.now slopes.now }
-    requires visible_len { (length visible.old ≡ pane_count b.now) × ((length alpha.old ≡ pane_count b.now) × (length influence.old ≡ pane_count b.now)) }
-    ensures visible_after { visible.new ≡ visibles s.now b.now frames.now values.now slopes.now active }
-    ensures alpha_after { alpha.new ≡ alphas s.now b.now frames.now values.now slopes.now active }
-    ensures influence_after { influence.new ≡ influences s.now b.now frames.now values.now slopes.now active }
-{
-    let menu = Menu::lent(s, b, frames, values, slopes);
-    cascade_rows(&menu, active, visible, alpha, influence);
 }

@@ -6,6 +6,8 @@ use native.Mathlib.Omega.{arith}
 use lib.ListN.{length, take, drop, length-append, length-drop}
 use lib.Seq.{length-take-le, take-length, take_at, drop-length}
 use borrow.Rule.Slice.PartMut.{mid_of, post_of, put_mid, same_len_mid, mid_len, Post-is}
+use Rattle.sheet.specs.Sizes.{frames_at, points_at}
+use Rattle.sheet.specs.Checked.{Checked}
 
 -- l is the output after the first part: the first a bytes of s, copied over out
 pub record Started (s out l : List ℕ) (a p : ℕ) : Type 0 where
@@ -13,6 +15,10 @@ pub record Started (s out l : List ℕ) (a p : ℕ) : Type 0 where
   pub inside : p ≤ length s
   pub same : length out ≡ length s
   pub copied : l ≡ take (length (take a s)) (take a s) ++ drop (length (take a s)) out
+
+-- so it is where a sheet was copied up to its frames
+pub copied_sheet : {s out l : List ℕ} {a p : ℕ} → Checked s → length out ≡ length s → a ≡ frames_at s → p ≡ points_at s → l ≡ take a s ++ drop (length (take a s)) out → Started s out l a p
+copied_sheet w e f q k = record { before = omega (arith, f, q); inside = omega (arith, q, w); same = e; copied = k ∙ sym (rw take-length) }
 
 module _ {s out l : List ℕ} {a p : ℕ} (w : Started s out l a p) where
   start_long : length (take a s) ≡ a

@@ -1,11 +1,13 @@
 // A sheet written from its bytes and other keys: everything but the two key arrays is copied, the arrays are the keys.
+// Stays by index in its loops: of what an adapter of iter_mut writes the library says nothing.
 #![tactic(auto)]
 
 ghost use Rattle.std.specs.Prelude.{◌≡◌, ◌*◌, length};
 ghost use Rattle.field.specs.Write.{float_bytes};
-ghost use Rattle.saved.specs.Saved.{points_of, saved_of, Finite, Savable};
+ghost use Rattle.saved.specs.Saved.{points_of, saved_of, Finite};
 
 use field::put_f32;
+use keys::Ready;
 
 // f32s, one after the other.
 fn put_floats(xs: &[f32], out: &mut [u8])
@@ -28,14 +30,14 @@ fn put_points(values: &[f32], slopes: &[f32], out: &mut [u8])
     }
 }
 
-// The sheet s with these keys, into an output of its length.
-pub fn write_sheet(s: &[u8], frames: &[f32], values: &[f32], slopes: &[f32], out: &mut [u8])
-    requires { Savable s.now frames.now values.now slopes.now × (length out.old ≡ length s.now) }
-    ensures { out.new ≡ saved_of s.now frames.now values.now slopes.now }
+// The sheet with these keys, into an output of its length.
+pub fn write_sheet(ready: Ready<'_>, out: &mut [u8])
+    requires { length out.old ≡ length ready.sheet.bytes.now }
+    ensures { out.new ≡ saved_of ready.entry.sheet.bytes.now ready.entry.keys.frames.now ready.entry.keys.values.now ready.entry.keys.slopes.now }
 {
-    let at = keys::frames_at(s);
-    let points = keys::points_at(s);
-    field::copy(&s[..at], out);
-    put_floats(frames, &mut out[at..points]);
-    put_points(values, slopes, &mut out[points..]);
+    let at = ready.sheet.frames_at();
+    let points = ready.sheet.points_at();
+    field::copy(&ready.sheet.bytes[..at], out);
+    put_floats(ready.keys.frames, &mut out[at..points]);
+    put_points(ready.keys.values, ready.keys.slopes, &mut out[points..]);
 }

@@ -41,6 +41,17 @@ animation_of s base i = (content_at s (base + i * content_bytes)).animation
 unfoldable pub content_of : List ℕ → ℕ → ℕ → ℕ
 content_of s base i = (target_at s (base + i * target_bytes)).content
 
+-- so a content's animation is held against that of the row before, and a target's content likewise
+pub content_climbs : (s : List ℕ) (base i : ℕ) {last : ℕ} → last ≡ prior (animation_of s base) i
+    → leb (content_at s (base + (i - 1) * content_bytes)).animation (content_at s (base + i * content_bytes)).animation ≡ leb last (content_at s (base + i * content_bytes)).animation
+unfolding animation_of
+content_climbs s base i e = rw e (prior_climbs (animation_of s base) i)
+
+pub target_climbs : (s : List ℕ) (base i : ℕ) {last : ℕ} → last ≡ prior (content_of s base) i
+    → leb (target_at s (base + (i - 1) * target_bytes)).content (target_at s (base + i * target_bytes)).content ≡ leb last (target_at s (base + i * target_bytes)).content
+unfolding content_of
+target_climbs s base i e = rw e (prior_climbs (content_of s base) i)
+
 -- two bytes as one number are at most 2 where the first is and the second is zero
 low_byte : (x y : ℕ) → x < 256 → leb (x + y * 256) 2 ≡ (leb x 2 && eqb y 0)
 low_byte x y l = go (leb x 2) refl (eqb y 0) refl

@@ -3,11 +3,11 @@
 ghost use Rattle.std.specs.Prelude.{◌≡◌, true, ◌+◌, ◌*◌, ◌<◌, ◌≤◌, length};
 ghost use Rattle.laws.specs.Below.{all_below};
 ghost use Rattle.sheet.specs.Sizes.{head_bytes, animation_bytes, content_bytes, target_bytes, animations_at};
-ghost use Rattle.sheet.specs.Tested.{rows_ok};
+ghost use Rattle.sheet.specs.Tested.{rows_ok, prior, animation_of, content_of};
 ghost use Rattle.sheet.specs.Sheet.{sizes_ok, length_ok, animation_ok, content_ok, target_from, targets_ok, sheet_ok};
 
-use crate::rows::{ANIMATION_BYTES, CONTENT_BYTES, HEAD, KEY_BYTES, ROW_NAME, TARGET_BYTES};
-use field::{NAME_BYTES, byte_at, u16_at};
+use crate::rows::{ANIMATION_BYTES, CONTENT_BYTES, HEAD, ROW_NAME, TARGET_BYTES, sheet_bytes};
+use field::{byte_at, u16_at};
 
 #[tactic(auto, unfolding(crate::specs::Sheet::sizes_ok))]
 fn sizes_ok(s: &[u8]) -> bool
@@ -29,13 +29,7 @@ pub fn length_ok(s: &[u8]) -> bool
     requires { head_bytes ≤ length s.now }
     ensures { result ≡ length_ok s.now }
 {
-    s.len()
-        == HEAD
-            + u16_at(s, 0) * ANIMATION_BYTES
-            + u16_at(s, 2) * CONTENT_BYTES
-            + u16_at(s, 4) * TARGET_BYTES
-            + u16_at(s, 8) * NAME_BYTES
-            + u16_at(s, 6) * KEY_BYTES
+    s.len() == sheet_bytes(s)
 }
 
 #[tactic(auto, unfolding(crate::specs::Sheet::animation_ok))]
@@ -56,51 +50,61 @@ fn animations_ok(s: &[u8], n: usize) -> bool
     (0..n).all(|i| animation_ok(s, i))
 }
 
-// Row 0 is held against itself.
-#[tactic(auto, unfolding(crate::specs::Sheet::content_ok))]
-fn content_ok(s: &[u8], base: usize, a: usize, i: usize) -> bool
-    requires { base + i * content_bytes + content_bytes ≤ length s.now }
+// `last` is the animation of the row before, and 0 at first.
+#[tactic(auto, using(crate::specs::Tested::content_climbs), unfolding(crate::specs::Sheet::content_ok))]
+fn content_ok(s: &[u8], base: usize, a: usize, i: usize, last: usize) -> bool
+    requires row { base + i * content_bytes + content_bytes ≤ length s.now }
+    requires before { last ≡ prior (animation_of s.now base) i }
     ensures { result ≡ content_ok s.now base a i }
 {
     let at = base + i * CONTENT_BYTES;
     let animation = byte_at(s, at);
-    let last = byte_at(s, base + i.saturating_sub(1) * CONTENT_BYTES);
     (byte_at(s, at + 1) <= 4) & (u16_at(s, at + 2) == 0) & (animation < a) & (last <= animation)
 }
 
-#[tactic(auto, unfolding(laws::specs::Below::all_below))]
+#[tactic(auto, using(laws::specs::Below::passed_none, laws::specs::Below::passed_more, laws::specs::Below::passed_not, laws::specs::Below::passed_all, crate::specs::Tested::prior_none, crate::specs::Tested::prior_more), unfolding(crate::specs::Tested::animation_of))]
 fn contents_ok(s: &[u8], base: usize, a: usize, n: usize) -> bool
     requires { base + n * content_bytes ≤ length s.now }
     ensures { result ≡ all_below n (content_ok s.now base a) }
 {
-    (0..n).all(|i| content_ok(s, base, a, i))
+    let mut last = 0;
+    for i in 0..n {
+        if !content_ok(s, base, a, i, last) {
+            return false;
+        }
+        last = byte_at(s, base + i * CONTENT_BYTES);
+    }
+    true
 }
 
-// Row 0 is held against itself. Curve and padding are one number, at most 2.
-#[tactic(auto, using(crate::specs::Tested::curve_padded), unfolding(crate::specs::Sheet::target_from))]
-fn target_from(s: &[u8], base: usize, c: usize, i: usize, f: usize) -> bool
-    requires { base + i * target_bytes + target_bytes ≤ length s.now }
+// `last` is the content of the row before, and 0 at first. Curve and padding are one number, at most 2.
+#[tactic(auto, using(crate::specs::Tested::curve_padded, crate::specs::Tested::target_climbs), unfolding(crate::specs::Sheet::target_from))]
+fn target_from(s: &[u8], base: usize, c: usize, i: usize, f: usize, last: usize) -> bool
+    requires row { base + i * target_bytes + target_bytes ≤ length s.now }
+    requires before { last ≡ prior (content_of s.now base) i }
     ensures { result ≡ target_from s.now base c i f }
 {
     let at = base + i * TARGET_BYTES;
     let content = u16_at(s, at);
-    let last = u16_at(s, base + i.saturating_sub(1) * TARGET_BYTES);
     (u16_at(s, at + 8) <= 2) & (content < c) & (last <= content) & (u16_at(s, at + 10) == f)
 }
 
 // `sum` is the sum of the earlier counts.
-#[tactic(auto, using(laws::specs::Below::passed_none, laws::specs::Below::passed_more, laws::specs::Below::passed_not, laws::specs::Below::passed_all, laws::specs::Sum::sum_none, laws::specs::Sum::sum_more), unfolding(crate::specs::Sheet::targets_ok, crate::specs::Sheet::target_ok, crate::specs::Sheet::keys_of))]
+#[tactic(auto, using(laws::specs::Below::passed_none, laws::specs::Below::passed_more, laws::specs::Below::passed_not, laws::specs::Below::passed_all, laws::specs::Sum::sum_none, laws::specs::Sum::sum_more, crate::specs::Tested::prior_none, crate::specs::Tested::prior_more), unfolding(crate::specs::Sheet::targets_ok, crate::specs::Sheet::target_ok, crate::specs::Sheet::keys_of, crate::specs::Tested::content_of))]
 fn targets_ok(s: &[u8], base: usize, c: usize, n: usize, k: usize) -> bool
     requires within { base + n * target_bytes ≤ length s.now }
     requires counted { n < 65536 }
     ensures { result ≡ targets_ok s.now base c n k }
 {
     let mut sum = 0;
+    let mut last = 0;
     for i in 0..n {
-        if !target_from(s, base, c, i, sum) {
+        if !target_from(s, base, c, i, sum, last) {
             return false;
         }
-        sum += u16_at(s, base + i * TARGET_BYTES + 12);
+        let at = base + i * TARGET_BYTES;
+        sum += u16_at(s, at + 12);
+        last = u16_at(s, at);
     }
     sum == k
 }

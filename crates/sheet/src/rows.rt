@@ -1,9 +1,7 @@
-// The sizes and the rows of a sheet, by value, and the names in it, as parts of the lent slice.
-// The rows ask for a checked sheet, so that whoever holds one needs no index proof of its own.
-ghost use Rattle.std.specs.Prelude.{◌≡◌, ◌+◌, ◌*◌, ◌<◌, ◌≤◌, length};
-ghost use Rattle.sheet.specs.Sizes.{animation_count, content_count, target_count, key_count, texture_count, head_bytes, target_bytes, contents_at, targets_at, textures_at};
-ghost use Rattle.sheet.specs.Rows.{animation_row, content_row, target_at, target_row, next_name, texture_name};
-ghost use Rattle.sheet.specs.Checked.{Checked};
+// The sizes of a sheet and where its tables start, of any bytes that have a head, and its rows by value. What a checked sheet has is in `view.rt`.
+ghost use Rattle.std.specs.Prelude.{◌≡◌, ◌+◌, ◌≤◌, length};
+ghost use Rattle.sheet.specs.Sizes.{animation_count, content_count, target_count, key_count, texture_count, head_bytes, target_bytes, contents_at, targets_at, textures_at, sheet_bytes};
+ghost use Rattle.sheet.specs.Rows.{target_at};
 
 use field::{NAME_BYTES, byte_at, u16_at};
 
@@ -26,14 +24,33 @@ pub const ROW_NAME: usize = 4;
 pub struct Animation {
     pub frames: u16,
     pub looping: bool,
+    // Stays a flag: a row is read by value, and the name of the next is lent by `Sheet::next_name`.
     pub next: bool,
 }
 
 #[derive(Clone, Copy, Debug)]
 pub struct Content {
     pub animation: usize,
-    // A number from 0 to 4, which is told and never looked at here.
+    // Stays a number, at most 4 in a checked sheet: the definitions read a row off any bytes, where it may be larger.
     pub kind: usize,
+}
+
+impl Content {
+    ghost use Rattle.std.specs.Prelude.{◌≡◌, ◌||◌, eqb};
+
+    // Whether it reaches the pane with its name: of type Pane or PaneExt.
+    pub fn reaches_pane(&self) -> bool
+        ensures { result ≡ (eqb self.now.kind 0 || eqb self.now.kind 3) }
+    {
+        self.kind == 0 || self.kind == 3
+    }
+
+    // Whether it reaches the material of its name: of type Material.
+    pub fn reaches_material(&self) -> bool
+        ensures { result ≡ eqb self.now.kind 1 }
+    {
+        self.kind == 1
+    }
 }
 
 #[derive(Clone, Copy, Debug)]
@@ -42,7 +59,7 @@ pub struct Target {
     pub layer: usize,
     pub raw: usize,
     pub code: u32,
-    // A number from 0 to 2 in a checked sheet, and any in one that is not: so no enum here, and curve's Kind is made where a curve is read.
+    // Stays a number, at most 2 in a checked sheet: the definitions read a row off any bytes. Where a curve is read it is a `curve::Kind`.
     pub curve: usize,
     pub first: usize,
     pub count: usize,
@@ -108,31 +125,16 @@ pub fn textures_at(s: &[u8]) -> usize
         + u16_at(s, 4) * TARGET_BYTES
 }
 
-// ---- rows
-
-#[tactic(auto, unfolding(crate::specs::Rows::animation_row))]
-pub fn animation_row(s: &[u8], i: usize) -> Animation
-    requires { Checked s.now × (i < animation_count s.now) }
-    ensures { result ≡ animation_row s.now i }
+// How long a sheet of these sizes is.
+pub fn sheet_bytes(s: &[u8]) -> usize
+    requires { head_bytes ≤ length s.now }
+    ensures { result ≡ sheet_bytes s.now }
 {
-    let at = HEAD + i * ANIMATION_BYTES;
-    Animation {
-        frames: u16_at(s, at) as u16,
-        looping: byte_at(s, at + 2) == 1,
-        next: byte_at(s, at + 3) == 1,
-    }
-}
-
-#[tactic(auto, unfolding(crate::specs::Rows::content_row))]
-pub fn content_row(s: &[u8], i: usize) -> Content
-    requires { Checked s.now × (i < content_count s.now) }
-    ensures { result ≡ content_row s.now i }
-{
-    let at = contents_at(s) + i * CONTENT_BYTES;
-    Content {
-        animation: byte_at(s, at),
-        kind: byte_at(s, at + 1),
-    }
+    HEAD + u16_at(s, 0) * ANIMATION_BYTES
+        + u16_at(s, 2) * CONTENT_BYTES
+        + u16_at(s, 4) * TARGET_BYTES
+        + u16_at(s, 8) * NAME_BYTES
+        + u16_at(s, 6) * KEY_BYTES
 }
 
 // The target's row at a place, for loops that keep where the targets start.
@@ -149,30 +151,4 @@ pub fn target_at(s: &[u8], at: usize) -> Target
         first: u16_at(s, at + 10),
         count: u16_at(s, at + 12),
     }
-}
-
-#[tactic(auto, unfolding(crate::specs::Rows::target_row))]
-pub fn target_row(s: &[u8], i: usize) -> Target
-    requires { Checked s.now × (i < target_count s.now) }
-    ensures { result ≡ target_row s.now i }
-{
-    target_at(s, targets_at(s) + i * TARGET_BYTES)
-}
-
-// ---- names
-
-#[tactic(auto, unfolding(crate::specs::Rows::next_name))]
-pub fn next_name<'a>(s: &'a [u8], i: usize) -> &'a [u8]
-    requires { Checked s.now × (i < animation_count s.now) }
-    ensures { result.now ≡ next_name s.now i }
-{
-    field::name_at(s, HEAD + i * ANIMATION_BYTES + ROW_NAME)
-}
-
-#[tactic(auto, unfolding(crate::specs::Rows::texture_name))]
-pub fn texture_name<'a>(s: &'a [u8], i: usize) -> &'a [u8]
-    requires { Checked s.now × (i < texture_count s.now) }
-    ensures { result.now ≡ texture_name s.now i }
-{
-    field::name_at(s, textures_at(s) + i * NAME_BYTES)
 }

@@ -1,5 +1,6 @@
 // The UV block: four corners of three layers of a pair (document 01, "UVs and corners"; anim_state.rs and pane_tree.rs).
 // Layers are lent as eight numbers each, u and v of top left, top right, bottom left, bottom right; SRTs as five each.
+// Stays an index below 3 where a layer is meant: an array asks for the bound wherever it is indexed.
 ghost use Rattle.std.specs.Prelude.{◌≡◌, ◌+◌, ◌*◌, ◌<◌, ◌≤◌, length};
 ghost use Rattle.uv.specs.Uvs.{srt_numbers, block_numbers, moved, srt_turn, base_uvs, srt_at, applied, numbers};
 ghost use Rattle.uv.specs.Sets.{lent_set, set_of, set_transformed, with_set};
@@ -35,8 +36,8 @@ fn srt_turn(srt: Srt) -> SinCos
     float::sin_cos(float::radians(srt.rotate))
 }
 
-// A layer's UV set, its pair at each corner: what is lent, or the unit square where the layer is missing. One test for the four pairs, so that
-// they are read together.
+// A layer's UV set, its pair at each corner: what is lent, or the unit square where the layer is missing.
+// Stays four pairs written out: one test serves all four, so that they are read together.
 fn get_uv_set(layers: &[f32], layer: usize) -> [[f32; 2]; 4]
     requires { layer < 3 }
     ensures { result ≡ lent_set layers.now layer }
@@ -96,8 +97,8 @@ fn srt_at(srts: &[f32], i: usize) -> Srt
     }
 }
 
-// A layer's UV set, transformed where the layer has an SRT. The sine and cosine are made once. The four pairs are written out: of `set.map(..)` the proof
-// did not close.
+// A layer's UV set, transformed where the layer has an SRT. The sine and cosine are made once.
+// Stays four pairs written out: of `set.map(..)` the proof did not close.
 fn transform_set(srts: &[f32], layer: usize, set: [[f32; 2]; 4]) -> [[f32; 2]; 4]
     requires { layer < 3 }
     ensures { result ≡ set_transformed srts.now layer set }
@@ -144,6 +145,7 @@ pub fn apply_srt_to_uvs(base: [[[f32; 2]; 3]; 4], srts: &[f32]) -> [[[f32; 2]; 3
 }
 
 // The block's numbers in order, by pairs: so few turns are unrolled, and need no block in memory.
+// Stays by index: of `out.chunks_exact_mut(2)` the proof did not close.
 pub fn store(uvs: [[[f32; 2]; 3]; 4], out: &mut [f32])
     requires { length out.old ≡ block_numbers }
     ensures { out.new ≡ numbers uvs }

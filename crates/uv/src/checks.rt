@@ -29,7 +29,7 @@ fn angle_passes(srts: &[f32], i: usize) -> bool
     float::angle_passes(srts[i * SRT + 2])
 }
 
-// The angle of every SRT of the list passes.
+// The angle of every SRT of the list passes. Stays by index: of `srts.chunks_exact(SRT).all(..)` the proof did not close.
 #[tactic(auto, unfolding(crate::specs::Declined::angles_pass, laws::specs::Below::all_below))]
 fn angles_pass(srts: &[f32]) -> bool
     ensures { result ≡ angles_pass srts.now }
@@ -37,6 +37,7 @@ fn angles_pass(srts: &[f32]) -> bool
     (0..srts.len() / SRT).all(|i| angle_passes(srts, i))
 }
 
+// Both lists hold whole layers and SRTs of passing numbers. Stays a comparison with BLOCK: it is how many numbers the output has to hold, and no kind.
 #[tactic(auto, unfolding(crate::specs::Declined::uvs_table, laws::specs::Rows::declines, laws::specs::Rows::unless))]
 pub fn check_uvs(layers: &[f32], srts: &[f32], length: usize) -> Result<(), Refusal>
     ensures { declined result ≡ declines (uvs_table layers.now srts.now length) }

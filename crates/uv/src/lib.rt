@@ -1,5 +1,6 @@
 // UVs (document 01, "UVs and corners"), as the Rust's anim_state.rs and pane_tree.rs have them.
-// The call from outside asks nothing of its arguments: it answers a refusal's number, 0 for none, and on a refusal the output stays as it was.
+// The call from outside asks nothing of its arguments. On a refusal the output is as it was.
+// Stays a number in its answer: C reads a refusal's, and 0 for none. A refusal is told by a match at the call's end: a function over a `Result` would take what the call writes, too.
 #![tactic(auto)]
 
 mod block;

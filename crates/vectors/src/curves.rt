@@ -17,6 +17,7 @@ pub fn record(rest: &mut Rest, tally: &mut Tally) -> Option<()>
     if n > MOST_KEYS {
         return None;
     }
+    // Stays three arrays, as the probe takes the keys.
     let mut frames = [0.0f32; MOST_KEYS];
     let mut values = [0.0f32; MOST_KEYS];
     let mut slopes = [0.0f32; MOST_KEYS];

@@ -12,6 +12,7 @@ pub enum Family {
     Books,
     Uvs,
     Corners,
+    // Stays a family: a sample of it with no record is told by this name.
     Unknown,
 }
 

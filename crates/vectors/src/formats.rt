@@ -3,6 +3,9 @@
 ghost use Rattle.std.specs.Prelude.{◌≡◌, ◌<◌, length, IfSome};
 
 use crate::sample::{Rest, Tally};
+use book::Book;
+use laws::Refusal;
+use laws::refusal::ACCEPTED;
 
 // The most bytes of a record: the longest sheet, and one more.
 const MOST: usize = 31725;
@@ -17,15 +20,23 @@ fn key_count(bytes: &[u8]) -> Option<usize> {
     rest.count()
 }
 
-// The refusal of bytes that are to be a sheet, or 0.
-pub fn sheet_refusal(bytes: &[u8]) -> u8 {
+// Why bytes that are to be a sheet are declined.
+pub fn sheet_refusal(bytes: &[u8]) -> Option<Refusal> {
     let n = key_count(bytes).unwrap_or(0);
-    keys::load_refusal(bytes, n, n, n)
+    keys::check_load(bytes, n, n, n).err()
 }
 
-// The refusal of bytes that are to be a book, or 0.
-pub fn book_refusal(bytes: &[u8]) -> u8 {
-    if book::book_ok(bytes) { 0 } else { 2 }
+// Why bytes that are to be a book are declined.
+pub fn book_refusal(bytes: &[u8]) -> Option<Refusal> {
+    Book::new(bytes).err()
+}
+
+// A refusal as a sample stores it. Stays a number, 0 for none: the sample's own.
+fn stored(refusal: Option<Refusal>) -> u8 {
+    match refusal {
+        Some(refusal) => refusal.number(),
+        None => ACCEPTED,
+    }
 }
 
 // Puts bytes at a place, as far as there is room.
@@ -36,7 +47,12 @@ fn put(bytes: &mut [u8], place: usize, from: &[u8]) {
 }
 
 // The record that the rest begins with. A change may be longer than the bytes: then what follows them in the sample goes on them.
-pub fn record<F: Fn(&[u8]) -> u8>(refusal_of: F, rest: &mut Rest, tally: &mut Tally) -> Option<()>
+// Stays an array: each change begins with a copy of it.
+pub fn record<F: Fn(&[u8]) -> Option<Refusal>>(
+    refusal_of: F,
+    rest: &mut Rest,
+    tally: &mut Tally,
+) -> Option<()>
     requires { F.IsAlwaysCallable refusal_of }
     ensures { IfSome result (λ _. length rest.new.bytes.now < length rest.old.bytes.now) }
 {
@@ -55,7 +71,7 @@ pub fn record<F: Fn(&[u8]) -> u8>(refusal_of: F, rest: &mut Rest, tally: &mut Ta
         let [refusal, _] = rest.next::<2>()?;
         let mut changed = bytes;
         put(&mut changed, place, &four);
-        tally.count(refusal_of(&changed[..long.min(MOST)]) == refusal);
+        tally.count(stored(refusal_of(&changed[..long.min(MOST)])) == refusal);
     }
     Some(())
 }

@@ -18,7 +18,7 @@ use std::env::FillError;
 use std::io;
 use std::rt::Env;
 
-// The longest sample: what is longer is told so.
+// The longest sample: what is longer is told so. Stays an array: a Vec would only add a failure.
 const LONGEST: usize = 65536;
 
 // The cases of a sample, where its head and every record are whole, and it has as many cases as the head says.
@@ -28,6 +28,7 @@ fn replayed(bytes: &[u8]) -> Option<(Family, Tally)> {
     let cases = rest.bits()?;
     let family = Family::from(head[0]);
     let mut tally = Tally::default();
+    // Stays a while: each record says itself how long it is.
     while !rest.bytes.is_empty() {
         family.record(&mut rest, &mut tally)?;
     }
@@ -55,9 +56,10 @@ fn replay_file(rt: HostRuntime, path: &[u8]) -> io::Result<()> {
     }
 }
 
-// A line for each argument.
+// A line for each argument. Stays an array, as long as the longest path: the runtime fills what it is lent.
 fn main(rt: HostRuntime) {
     let mut name = [0u8; 4096];
+    // Stays counted: a loop has to end, and nothing says that the arguments do.
     for i in 1..usize::MAX {
         let path = match rt.arg(i, &mut name) {
             Ok(n) => &name[..n],

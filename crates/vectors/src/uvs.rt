@@ -15,6 +15,7 @@ pub fn record(rest: &mut Rest, tally: &mut Tally) -> Option<()>
     if (l as usize > MOST) | (s as usize > MOST) {
         return None;
     }
+    // Stays an array for each list: a Vec would only add a failure to each record.
     let mut layers = [0.0f32; MOST];
     let layers = &mut layers[..l as usize];
     rest.numbers(layers)?;
@@ -24,6 +25,7 @@ pub fn record(rest: &mut Rest, tally: &mut Tally) -> Option<()>
     let mut told = Rest {
         bytes: rest.take(4 * n as usize)?,
     };
+    // Stays an array: a Vec would only add a failure to each record.
     let mut output = [0.0f32; MOST];
     if n as usize > output.len() {
         tally.count(false);

@@ -4,4 +4,4 @@ use Rattle.field.specs.Word.{empty_words}
 use Rattle.field.proofs.empty_name.Goals as goal
 
 pub returns : goal.returns
-returns c = let a = c.args in rw (empty_words a.s.now (λ k. omega (arith, c.shared_slice_known-1.given k)) a.at) (cc)
+returns c = let a = c.args in rw (empty_words a.s.now (λ k. omega (arith, c.type_inv.s k)) a.at) (cc)

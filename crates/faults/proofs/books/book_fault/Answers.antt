@@ -1,7 +1,6 @@
 -- What the tests tell.
-use Rattle.std.proofs.Common.{rules}
 use Rattle.faults.specs.Book.{book_told}
 use Rattle.faults.proofs.books.book_fault.Goals as goal
 
 pub returns : goal.returns
-returns c = book_told _ (search rules)
+returns c = book_told _ c.layout_fault.ensures

@@ -2,13 +2,15 @@
 use Rattle.std.proofs.Common.{ℕ, List, arith, sym, ◌≡◌, nat_eq}
 use Rattle.laws.specs.Sum.{sum_none, sum_below}
 use Rattle.sheet.specs.Sheet.{keys_of}
-use Rattle.faults.specs.Rules.{count_sum}
-use Rattle.faults.specs.Tests.{fault}
-use Rattle.faults.specs.Verdict.{verdict, asked, each_none, first_accepts}
+use Rattle.std.specs.Prelude.{Some}
+use Rattle.faults.specs.declared.rules.Rule.TheVariants as rule
+use Rattle.faults.specs.declared.fault.Part.TheVariants as part
+use Rattle.faults.specs.Tests.{fault, verdict, asked}
+use Rattle.faults.specs.Verdict.{each_none, first_accepts}
 use Rattle.faults.specs.Sheet.{targets_tests, count_test}
 use Rattle.faults.proofs.sheets.targets_fault.Goals as goal
 
-counted : (s : List ℕ) (base n k sum : ℕ) → sum ≡ sum_below n (keys_of s base) → asked (nat_eq sum k) (fault count_sum 0 0 6 k sum) ≡ verdict (count_test s base n k)
+counted : (s : List ℕ) (base n k sum : ℕ) → sum ≡ sum_below n (keys_of s base) → asked (nat_eq sum k) (fault rule.CountSum part.Whole 6 k (Some sum)) ≡ verdict (count_test s base n k)
 unfolding verdict count_test
 counted s base n k sum e = rw e
 

@@ -2,8 +2,7 @@ use Rattle.std.proofs.Common.{◌≡◌, ◌*◌, ◌≤◌}
 use Rattle.std.specs.Prelude.{Ok}
 use Rattle.laws.specs.Sum.{sum_below}
 use Rattle.sheet.specs.Sheet.{keys_of}
-use Rattle.faults.specs.Tests.{each_below}
-use Rattle.faults.specs.Verdict.{verdict}
+use Rattle.faults.specs.Tests.{verdict, each_below}
 use Rattle.faults.specs.Sheet.{target_tests}
 use Rattle.faults.proofs.sheets.targets_fault.Given as goal
 

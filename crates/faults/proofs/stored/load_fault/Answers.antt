@@ -1,7 +1,6 @@
 -- What the tests tell.
-use Rattle.std.proofs.Common.{rules}
 use Rattle.faults.specs.Load.{load_told}
 use Rattle.faults.proofs.stored.load_fault.Goals as goal
 
 pub returns : goal.returns
-returns c = load_told _ (search rules)
+returns c = load_told _ c.loading_fault.ensures

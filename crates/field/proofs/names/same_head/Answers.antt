@@ -1,5 +1,5 @@
 -- The first words are the same exactly where the first eight bytes are.
-use Rattle.std.proofs.Common.{sym, ◌∙◌, arith}
+use Rattle.std.proofs.Common.{arith}
 use Rattle.field.specs.Word.{first_word, other_first}
 use Rattle.field.proofs.names.same_head.Goals as goal
 

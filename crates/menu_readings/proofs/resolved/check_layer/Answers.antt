@@ -2,7 +2,7 @@
 use Rattle.std.proofs.Common.{◌≡◌, rules, Err}
 use Rattle.laws.specs.Refused.{refused}
 use Rattle.laws.specs.Rows.{stops}
-use Rattle.edit.specs.Keys.{keys}
+use Rattle.menu_checks.specs.Lent.{keys_of}
 use Rattle.menu_checks.specs.Rows.{reading_rows}
 use Rattle.menu_readings.specs.Rows.{resolve_srt_table}
 use Rattle.menu_readings.proofs.resolved.check_layer.Goals as goal
@@ -11,5 +11,4 @@ pub returns-in_err-menu-clause-declined : goal.returns-in_err-menu-clause-declin
 unfolding resolve_srt_table
 returns-in_err-menu-clause-declined c =
     let q : c.from_residual.result ≡ Err c.in_err-menu.field-0.0 = search rules in
-    let ks = keys c.args.frames.now c.args.values.now c.args.slopes.now in
-    rw q (stops (reading_rows c.args.s.now c.args.b.now c.args.p.now ks) _ c.in_err-menu.ensures.declined (refused _))
+    rw q (stops (reading_rows c.args.lent.sheet.now c.args.b.now c.args.p.now (keys_of c.args.lent)) _ c.in_err-menu.ensures.declined (refused _))

@@ -1,5 +1,5 @@
 -- A row that is left has another name, by its first eight bytes, its last eight or one between; the row that is found has the name.
-use Rattle.std.proofs.Common.{sym, ap, ◌∙◌, ◌≡◌, arith, rules, eq-eqb, ne_eqb}
+use Rattle.std.proofs.Common.{sym, ◌≡◌, arith, rules, eq-eqb, ne_eqb}
 use Rattle.laws.specs.Below.{passed_more, passed_not, Passed}
 use Rattle.laws.specs.First.{missed_none, missed_more, missed_at}
 use Rattle.field.specs.Name.{name_bytes, same_byte, same_name, row_named, find_name}

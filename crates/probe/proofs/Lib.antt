@@ -1,0 +1,1 @@
+-- No lemma of this crate stands in a file of its own.
