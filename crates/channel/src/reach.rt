@@ -108,7 +108,20 @@ impl<'b, 'i> Names<'b, 'i> {
         }
     }
 
+    // Content c with what it reaches, searched for.
+    fn search_for(&self, sheet: &Sheet<'_>, a: usize, c: usize) -> Held
+        requires { c < content_count sheet.now.bytes.now }
+        ensures { result ≡ held_for sheet.now.bytes.now self.now.book.bytes.now a c }
+    {
+        Held {
+            content: c,
+            reached: self.active_reach(sheet, a, c),
+        }
+    }
+
     // Content c with what it reaches: what is held already, if that is content c's. Contents of targets never fall, so each name is searched for once.
+    // Inlined, the search apart: a call for each target would put what is held into memory and take it back.
+    #[inline(always)]
     pub fn held_for(&self, sheet: &Sheet<'_>, a: usize, c: usize, held: Option<Held>) -> Held
         requires content { c < content_count sheet.now.bytes.now }
         requires held { IfSome held (Holds sheet.now.bytes.now self.now.book.bytes.now a) }
@@ -116,10 +129,7 @@ impl<'b, 'i> Names<'b, 'i> {
     {
         match held {
             Some(h) if h.content == c => h,
-            _ => Held {
-                content: c,
-                reached: self.active_reach(sheet, a, c),
-            },
+            _ => self.search_for(sheet, a, c),
         }
     }
 }

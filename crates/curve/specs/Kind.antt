@@ -1,5 +1,5 @@
 -- A curve's kind, and the number by which a target's row of the sheet names it. Assumes nothing.
-use Rattle.std.specs.Prelude.{ℕ, zero, suc, ◌≡◌, refl, List, Float}
+use Rattle.std.specs.Prelude.{ℕ, zero, suc, ◌≤◌, ◌≡◌, refl, List, Float}
 use Rattle.std.proofs.Common.{arith, ne_eqb}
 use Rattle.curve.specs.Curve.{Ordered, eval_curve, kind_constant, kind_step, kind_hermite}
 use Rattle.curve.specs.declared.kind.Kind.{Kind}
@@ -15,6 +15,12 @@ abbrev pub kind_of : ℕ → Kind
 kind_of zero = kind.Constant
 kind_of (suc zero) = kind.Step
 kind_of (suc (suc n)) = kind.Hermite
+
+-- and the number of a kind that there is names that kind
+pub number_kind : (n : ℕ) → n ≤ kind_hermite → number (kind_of n) ≡ n
+number_kind zero l = refl
+number_kind (suc zero) l = refl
+number_kind (suc (suc n)) l = omega arith
 
 -- so a curve gives the same by its number and by its kind
 pub eval_kind : (n : ℕ) (fs vs ss : List Float) (x : Float) → eval_curve (number (kind_of n)) fs vs ss x ≡ eval_curve n fs vs ss x

@@ -124,14 +124,15 @@ pub fn empty_name(s: &[u8], at: usize) -> bool
     (word_at(s, at) == 0) & (word_at(s, at + 8) == 0) & (word_at(s, at + 16) == 0)
 }
 
-// Whether two fields hold one name. Stays by words: a comparison of the two slices, tried, takes nearly twice as long.
+// Whether two fields hold one name. Left at the first word that differs, since most pairs are of two names.
+// Stays by words: a comparison of the two slices, tried, takes nearly twice as long.
 pub fn same_name(s: &[u8], i: usize, t: &[u8], j: usize) -> bool
     requires { (i + name_bytes ≤ length s.now) × (j + name_bytes ≤ length t.now) }
     ensures { result ≡ same_name s.now i t.now j }
 {
-    (word_at(s, i) == word_at(t, j))
-        & (word_at(s, i + 8) == word_at(t, j + 8))
-        & (word_at(s, i + 16) == word_at(t, j + 16))
+    word_at(s, i) == word_at(t, j)
+        && word_at(s, i + 8) == word_at(t, j + 8)
+        && word_at(s, i + 16) == word_at(t, j + 16)
 }
 
 // How many buckets names have.

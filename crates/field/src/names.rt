@@ -101,6 +101,7 @@ impl<'a> Names<'a> {
         requires { at + name_bytes ≤ length names.now }
         ensures { result ≡ find_name self.now.table.now self.now.base self.now.stride self.now.rows names.now at }
     {
+        let mut found = None;
         'rows: for i in 0..self.rows {
             let place = self.place(i);
             if !same_head(self.table, place, names, at) {
@@ -114,8 +115,9 @@ impl<'a> Names<'a> {
                     continue 'rows;
                 }
             }
-            return Some(i);
+            found = Some(i);
+            break 'rows;
         }
-        None
+        found
     }
 }

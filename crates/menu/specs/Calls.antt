@@ -1,6 +1,8 @@
 -- What each call gives (document 01, "Playing and editing" and "What a call declines"; document 02, 1/13, 2/13 and 4/13): the number of the first row of
 -- its list that doesn't hold (specs/Rows), and its step where each does. Definitions only.
-use Rattle.std.specs.Prelude.{ℕ, Bool, ◌&&◌, cond, List, [], eqb, length, Float}
+use Rattle.std.specs.Prelude.{ℕ, Bool, true, false, ◌&&◌, cond, List, [], eqb, length, Float, Option, Some, None, Result, Ok, Err}
+use Rattle.laws.specs.declared.refusal.Refusal.{Refusal}
+use Rattle.laws.specs.Refusal.{number}
 use Rattle.laws.specs.Rows.{Row, declines}
 use Rattle.player.specs.declared.Player.{Player}
 use Rattle.player.specs.declared.Tick.TheVariants.{Idle}
@@ -84,6 +86,12 @@ edit_of s p ks track key r =
     (cond same p (edited_player p (entry_for s ks track key r)))
     (cond same ks (put_key ks (place s track key) (edited s ks track key r)))
 
+-- an edit's answer, by the entry that it made, none where it is unchanged
+abbrev pub edit_gives : Player → Result (Option Entry) Refusal → Edited
+edit_gives p (Ok (Some e)) = record { refusal = 0; unchanged = false; player = edited_player p e }
+edit_gives p (Ok None) = record { refusal = 0; unchanged = true; player = p }
+edit_gives p (Err e) = record { refusal = number e; unchanged = false; player = p }
+
 -- Loading: the sheet's keys, and a fresh player.
 unfoldable pub loaded_of : List ℕ → Keys → Changed
 loaded_of s ks =
@@ -97,6 +105,11 @@ next_name_of s a = cond (eqb (declines (next_name_table s a)) 0) (next_name s a)
 -- An undo and a redo: the entry is taken.
 unfoldable pub take_of : Way → List ℕ → Player → Keys → Changed
 take_of way s p ks = changed (declines (take_table way s p ks)) p ks (taken_player way p) (taken_keys s ks (entry_of way p))
+
+-- the answer of either, by whether the entry was taken
+abbrev pub take_gives : Way → Player → Result (Unit {0}) Refusal → Played
+take_gives way p (Ok x) = record { refusal = 0; player = taken_player way p }
+take_gives way p (Err e) = record { refusal = number e; player = p }
 
 abbrev pub undo_of : List ℕ → Player → Keys → Changed
 undo_of s p ks = take_of Undo s p ks

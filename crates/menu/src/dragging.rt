@@ -1,5 +1,6 @@
 // A drag of one key: opened, dragged, and then dropped or abandoned. Play, pose, tick, readings and saving go on meanwhile.
 // Stays as C has it: slices are lent apart, down to what writes them (what only looks takes a `Lent`), and a refusal is a number.
+// An opening, a drag and an abandonment make the player once, behind the match: a player in each arm is a place of 3.7 KB, zeroed at every call.
 ghost use Rattle.std.specs.Prelude.{◌≡◌, IfOk, OnOk};
 ghost use Rattle.laws.specs.Refusal.{declined};
 ghost use Rattle.laws.specs.Rows.{declines};
@@ -47,12 +48,13 @@ pub fn open_drag(
 ) -> Played
     ensures { result ≡ open_of s.now p (keys frames.now values.now slopes.now) track key }
 {
-    match check_open(Lent::new(s, frames, values, slopes), &p, track, key) {
-        Ok(now) => Played {
-            refusal: ACCEPTED,
-            player: p.with_drag(Drag::opened(track, key, now)),
-        },
-        Err(e) => Played::declined(p, e),
+    let (refusal, drag) = match check_open(Lent::new(s, frames, values, slopes), &p, track, key) {
+        Ok(now) => (ACCEPTED, Drag::opened(track, key, now)),
+        Err(e) => (e.number(), p.drag),
+    };
+    Played {
+        refusal,
+        player: p.with_drag(drag),
     }
 }
 
@@ -81,19 +83,18 @@ pub fn drag(
 ) -> Edited
     ensures { gave_edit result (keys frames.new values.new slopes.new) ≡ drag_of s.now p (keys frames.old values.old slopes.old) frame value }
 {
-    match check_drag(Lent::new(s, frames, values, slopes), &p, frame, value) {
+    let checked = check_drag(Lent::new(s, frames, values, slopes), &p, frame, value);
+    let (refusal, unchanged, moved) = match checked {
         Ok(c) => {
             put_key(frames, values, slopes, c.at, c.entry.after);
-            Edited {
-                refusal: ACCEPTED,
-                unchanged: same_key(c.entry.after, c.entry.before),
-                player: p.with_drag(Drag {
-                    moved: true,
-                    ..p.drag
-                }),
-            }
+            (ACCEPTED, same_key(c.entry.after, c.entry.before), true)
         }
-        Err(e) => Edited::declined(p, e),
+        Err(e) => (e.number(), false, p.drag.moved),
+    };
+    Edited {
+        refusal,
+        unchanged,
+        player: p.with_drag(Drag { moved, ..p.drag }),
     }
 }
 
@@ -148,14 +149,15 @@ pub fn abandon_drag(
 ) -> Played
     ensures { gave result (keys frames.new values.new slopes.new) ≡ abandon_of s.now p (keys frames.old values.old slopes.old) }
 {
-    match check_close(Lent::new(s, frames, values, slopes), &p) {
+    let (refusal, drag) = match check_close(Lent::new(s, frames, values, slopes), &p) {
         Ok(held) => {
             put_key(frames, values, slopes, held.at, p.drag.start());
-            Played {
-                refusal: ACCEPTED,
-                player: p.with_drag(Drag::closed()),
-            }
+            (ACCEPTED, Drag::closed())
         }
-        Err(e) => Played::declined(p, e),
+        Err(e) => (e.number(), p.drag),
+    };
+    Played {
+        refusal,
+        player: p.with_drag(drag),
     }
 }

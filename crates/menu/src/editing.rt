@@ -8,7 +8,7 @@ ghost use Rattle.edit.specs.Edit.{place};
 ghost use Rattle.player.specs.Counts.{CanEdit};
 ghost use Rattle.menu_checks.specs.Lent.{keys_of};
 ghost use Rattle.menu.specs.Rows.{edit_table};
-ghost use Rattle.menu.specs.Calls.{gave_edit, entry_for, edit_of};
+ghost use Rattle.menu.specs.Calls.{gave_edit, entry_for, edit_of, edit_gives};
 
 use crate::change::{Change, requested};
 use edit::put::{put_key, same_key};
@@ -17,6 +17,7 @@ use laws::Refusal;
 use laws::refusal::ACCEPTED;
 use menu_checks::Lent;
 use player::Player;
+use player::journal::Entry;
 
 // What an edit, a drag and a drop answer. `unchanged`: accepted, and the key has the same bits as before the call, for a drop as at the opening; also a drop
 // with no accepted drag.
@@ -29,8 +30,30 @@ pub struct Edited {
 }
 
 impl Edited {
-    ghost use Rattle.std.specs.Prelude.{◌≡◌, false};
+    ghost use Rattle.std.specs.Prelude.{◌≡◌, false, OnOk};
     ghost use Rattle.laws.specs.Refusal.{number};
+    ghost use Rattle.player.specs.Counts.{CanEdit};
+    ghost use Rattle.menu.specs.Calls.{edit_gives};
+
+    // The answer of an edit, by the entry that it made.
+    fn made(p: Player, entry: Result<Option<Entry>, Refusal>) -> Edited
+        requires { OnOk entry (CanEdit p) }
+        ensures { result ≡ edit_gives p entry }
+    {
+        match entry {
+            Ok(Some(e)) => Edited {
+                refusal: ACCEPTED,
+                unchanged: false,
+                player: p.after_edit(e),
+            },
+            Ok(None) => Edited {
+                refusal: ACCEPTED,
+                unchanged: true,
+                player: p,
+            },
+            Err(e) => Edited::declined(p, e),
+        }
+    }
 
     // The player as it was.
     pub(crate) fn declined(player: Player, refusal: Refusal) -> Edited
@@ -59,10 +82,10 @@ fn check_edit(lent: Lent, p: &Player, track: u16, key: u16, r: Request) -> Resul
     requested(&ready, track, key, r)
 }
 
-// An edit of either kind. Where the key has the same bits as before, nothing is stored.
+// An edit of either kind, but for the player: the entry that its journal takes. Where the key has the same bits as before, nothing is stored, and there is none.
 #[tactic(auto, using(laws::specs::Refused::refused), unfolding(crate::specs::Calls::edit_of, crate::specs::Calls::entry_for, edit::specs::Edit::unchanged, edit::specs::Keys::put_key))]
 fn edit(
-    p: Player,
+    p: &Player,
     s: &[u8],
     frames: &mut [f32],
     values: &mut [f32],
@@ -70,30 +93,21 @@ fn edit(
     track: u16,
     key: u16,
     r: Request,
-) -> Edited
-    ensures { gave_edit result (keys frames.new values.new slopes.new) ≡ edit_of s.now p (keys frames.old values.old slopes.old) track key r }
+) -> Result<Option<Entry>, Refusal>
+    ensures made { gave_edit (edit_gives p.now result) (keys frames.new values.new slopes.new) ≡ edit_of s.now p.now (keys frames.old values.old slopes.old) track key r }
+    ensures counts { OnOk result (CanEdit p.now) }
 {
-    match check_edit(Lent::new(s, frames, values, slopes), &p, track, key, r) {
-        Ok(c) => {
-            if same_key(c.entry.after, c.entry.before) {
-                return Edited {
-                    refusal: ACCEPTED,
-                    unchanged: true,
-                    player: p,
-                };
-            }
-            put_key(frames, values, slopes, c.at, c.entry.after);
-            Edited {
-                refusal: ACCEPTED,
-                unchanged: false,
-                player: p.after_edit(c.entry),
-            }
-        }
-        Err(e) => Edited::declined(p, e),
+    let c = check_edit(Lent::new(s, frames, values, slopes), p, track, key, r)?;
+    if same_key(c.entry.after, c.entry.before) {
+        return Ok(None);
     }
+    put_key(frames, values, slopes, c.at, c.entry.after);
+    Ok(Some(c.entry))
 }
 
 // Moves a key of the active animation to a frame and a value. Refusals 1, 3 to 6, 15, 7 to 9.
+// Inlined, as slope_edit is, up to the export: each call on the way would zero a place of 3.7 KB for the answer and copy it there.
+#[inline(always)]
 pub fn key_edit(
     p: Player,
     s: &[u8],
@@ -107,8 +121,8 @@ pub fn key_edit(
 ) -> Edited
     ensures { gave_edit result (keys frames.new values.new slopes.new) ≡ edit_of s.now p (keys frames.old values.old slopes.old) track key (Request.Key frame value) }
 {
-    edit(
-        p,
+    let made = edit(
+        &p,
         s,
         frames,
         values,
@@ -116,10 +130,12 @@ pub fn key_edit(
         track,
         key,
         Request::Key(frame, value),
-    )
+    );
+    Edited::made(p, made)
 }
 
 // Gives a Hermite key of the active animation a slope. Refusals 1, 3 to 6, 15, 7, 8, 10.
+#[inline(always)]
 pub fn slope_edit(
     p: Player,
     s: &[u8],
@@ -132,8 +148,8 @@ pub fn slope_edit(
 ) -> Edited
     ensures { gave_edit result (keys frames.new values.new slopes.new) ≡ edit_of s.now p (keys frames.old values.old slopes.old) track key (Request.Slope slope) }
 {
-    edit(
-        p,
+    let made = edit(
+        &p,
         s,
         frames,
         values,
@@ -141,5 +157,6 @@ pub fn slope_edit(
         track,
         key,
         Request::Slope(slope),
-    )
+    );
+    Edited::made(p, made)
 }

@@ -9,7 +9,7 @@ ghost use Rattle.player.specs.Undo.{entry_of};
 ghost use Rattle.player.specs.Counts.{CanTake};
 ghost use Rattle.menu_checks.specs.Lent.{keys_of};
 ghost use Rattle.menu.specs.Rows.{take_table};
-ghost use Rattle.menu.specs.Calls.{gave, take_of, undo_of, redo_of};
+ghost use Rattle.menu.specs.Calls.{gave, take_of, take_gives, undo_of, redo_of};
 
 use crate::change::Change;
 use crate::playing::Played;
@@ -41,26 +41,34 @@ fn check_take(way: Way, lent: Lent, p: &Player) -> Result<Change, Refusal>
     })
 }
 
-// The entry's key is left as the entry leaves it.
+// An undo or a redo, but for the player: the entry's key is left as the entry leaves it.
 #[tactic(auto, using(laws::specs::Refused::refused), unfolding(crate::specs::Calls::take_of, player::specs::Undo::taken_keys, edit::specs::Keys::put_key))]
 fn take(
     way: Way,
-    p: Player,
+    p: &Player,
     s: &[u8],
     frames: &mut [f32],
     values: &mut [f32],
     slopes: &mut [f32],
-) -> Played
-    ensures { gave result (keys frames.new values.new slopes.new) ≡ take_of way s.now p (keys frames.old values.old slopes.old) }
+) -> Result<(), Refusal>
+    ensures taken { gave (take_gives way p.now result) (keys frames.new values.new slopes.new) ≡ take_of way s.now p.now (keys frames.old values.old slopes.old) }
+    ensures counts { OnOk result (CanTake way p.now) }
 {
-    match check_take(way, Lent::new(s, frames, values, slopes), &p) {
-        Ok(c) => {
-            put_key(frames, values, slopes, c.at, c.entry.after);
-            Played {
-                refusal: ACCEPTED,
-                player: p.after_take(way),
-            }
-        }
+    let c = check_take(way, Lent::new(s, frames, values, slopes), p)?;
+    put_key(frames, values, slopes, c.at, c.entry.after);
+    Ok(())
+}
+
+// The answer of either.
+fn answer(way: Way, p: Player, taken: Result<(), Refusal>) -> Played
+    requires { OnOk taken (CanTake way p) }
+    ensures { result ≡ take_gives way p taken }
+{
+    match taken {
+        Ok(()) => Played {
+            refusal: ACCEPTED,
+            player: p.after_take(way),
+        },
         Err(e) => Played::declined(p, e),
     }
 }
@@ -75,7 +83,8 @@ pub fn undo(
 ) -> Played
     ensures { gave result (keys frames.new values.new slopes.new) ≡ undo_of s.now p (keys frames.old values.old slopes.old) }
 {
-    take(Way::Undo, p, s, frames, values, slopes)
+    let taken = take(Way::Undo, &p, s, frames, values, slopes);
+    answer(Way::Undo, p, taken)
 }
 
 // Makes the edit that was undone last again. Refusals 1, 3 to 5, 15, 11.
@@ -88,5 +97,6 @@ pub fn redo(
 ) -> Played
     ensures { gave result (keys frames.new values.new slopes.new) ≡ redo_of s.now p (keys frames.old values.old slopes.old) }
 {
-    take(Way::Redo, p, s, frames, values, slopes)
+    let taken = take(Way::Redo, &p, s, frames, values, slopes);
+    answer(Way::Redo, p, taken)
 }

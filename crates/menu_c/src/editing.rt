@@ -8,6 +8,8 @@ use edit::request::Request;
 use menu::{Edited, Played};
 use player::Player;
 
+// Both edits are inlined, so that the export makes their answer in one place.
+#[inline(always)]
 pub fn menu_key_edit(
     player: Player,
     sheet: &[u8],
@@ -26,6 +28,7 @@ pub fn menu_key_edit(
     )
 }
 
+#[inline(always)]
 pub fn menu_slope_edit(
     player: Player,
     sheet: &[u8],

@@ -17,6 +17,10 @@ pub behind_goes : {n m k : ℕ} → n ≡ 0 → k ≡ m → k ≡ behind n m
 unfolding behind
 behind_goes z h = rw z h
 
+-- the first part's refusal, handed on
+pub behind_first : {n k : ℕ} (m : ℕ) → k ≡ n → (k ≡ 0 → ⊥) → k ≡ behind n m
+behind_first m e d = e ∙ behind_stops m (λ z. d (e ∙ z))
+
 -- what closes a `return` of such a function
 pub ruleset behind_laws = (row_laws, behind_stops, behind_goes)
 
@@ -49,6 +53,18 @@ state_by s p fs vs ss e h = behind_rows (keys_rows s (keys fs vs ss)) (broken_ro
 pub reading_by : (s b : List ℕ) (p : Player) (fs vs ss : List Float) {n k : ℕ} → n ≡ declines (book_rows s b (keys fs vs ss)) → k ≡ behind n (declines (broken_rows s p (keys fs vs ss)))
     → k ≡ declines (reading_rows s b p (keys fs vs ss))
 reading_by s b p fs vs ss e h = behind_rows (book_rows s b (keys fs vs ss)) (broken_rows s p (keys fs vs ss)) tt e h
+
+-- ---- so a check that answers a list answers it by its two parts
+pub player_parts : (s : List ℕ) (p : Player) {k : ℕ} → k ≡ declines (player_rows s p) → k ≡ behind (declines (sheet_rows s)) (declines (own_rows s p))
+player_parts s p e = e ∙ sym (player_by s p refl refl)
+
+pub state_parts : (s : List ℕ) (p : Player) (fs vs ss : List Float) {k : ℕ} → k ≡ declines (state_rows s p (keys fs vs ss))
+    → k ≡ behind (declines (keys_rows s (keys fs vs ss))) (declines (broken_rows s p (keys fs vs ss)))
+state_parts s p fs vs ss e = e ∙ sym (state_by s p fs vs ss refl refl)
+
+pub reading_parts : (s b : List ℕ) (p : Player) (fs vs ss : List Float) {k : ℕ} → k ≡ declines (reading_rows s b p (keys fs vs ss))
+    → k ≡ behind (declines (book_rows s b (keys fs vs ss))) (declines (broken_rows s p (keys fs vs ss)))
+reading_parts s b p fs vs ss e = e ∙ sym (reading_by s b p fs vs ss refl refl)
 
 -- ---- and a call's own rows behind them
 pub player_behind : (s : List ℕ) (p : Player) (more : List Row) {n k : ℕ} → n ≡ declines (player_rows s p) → k ≡ behind n (declines more) → k ≡ declines (player_rows s p ++ more)

@@ -42,7 +42,8 @@ book_rows s b ks = row 1 (sheet_ok s) ∷ row 2 (book_ok b) ∷ array_rows s ks
 abbrev pub reading_rows : List ℕ → List ℕ → Player → Keys → List Row
 reading_rows s b p ks = book_rows s b ks ++ broken_rows s p ks
 
--- what two parts of a list decline with, by what each does: the first part's number n, and where that is 0 the second's, m. It is how a list's number comes
--- about from its parts' (proofs/Behind); a check itself hands the first part's refusal on by `?`.
+-- what two parts of a list decline with, by what each does: the first part's number n, and where that is 0 the second's, m. So answers a check that asks a
+-- list in two parts and hands the first part's refusal on by `?`: `check_player`, `check_state`, and `check_menu` of the readings. That it is the whole list's
+-- number is shown in proofs/Behind.
 unfoldable pub behind : ℕ → ℕ → ℕ
 behind n m = cond (eqb n 0) m n

@@ -21,7 +21,7 @@ impl<'a> Lent<'a> {
     ghost use Rattle.laws.specs.Rows.{declines};
     ghost use Rattle.edit.specs.Keys.{keys};
     ghost use Rattle.player.specs.Player.{player_ok};
-    ghost use Rattle.menu_checks.specs.Rows.{keys_rows, book_rows, state_rows};
+    ghost use Rattle.menu_checks.specs.Rows.{broken_rows, keys_rows, book_rows, state_rows, behind};
     ghost use Rattle.menu_checks.specs.Lent.{keys_of, IsOf};
 
     // Stays over slices apart: C lends them so, and this makes one value of them.
@@ -61,9 +61,10 @@ impl<'a> Lent<'a> {
     }
 
     // Rows 1 and 3 to 5: sheet, keys and player.
-    #[tactic(auto, using(laws::specs::Refused::refused), unfolding(laws::specs::Rows::declines, laws::specs::Rows::unless))]
+    #[tactic(auto, using(laws::specs::Refused::refused, crate::proofs::Behind::behind_first, crate::proofs::Behind::state_parts), unfolding(laws::specs::Rows::declines, laws::specs::Rows::unless))]
     pub fn check_state(self, p: &Player) -> Result<Ready<'a>, Refusal>
         ensures declined { declined result ≡ declines (state_rows self.entry.sheet.now p.now (keys_of self.entry)) }
+        ensures parts { declined result ≡ behind (declines (keys_rows self.entry.sheet.now (keys_of self.entry))) (declines (broken_rows self.entry.sheet.now p.now (keys_of self.entry))) }
         ensures lent { IfOk result (λ r. IsOf r self.entry) }
         ensures player { OnOk result (player_ok self.entry.sheet.now p.now ≡ true) }
     {

@@ -10,7 +10,7 @@ ghost use Rattle.laws.specs.Refusal.{declined};
 ghost use Rattle.laws.specs.Rows.{declines};
 ghost use Rattle.edit.specs.Keys.{keys};
 ghost use Rattle.player.specs.Player.{player_ok};
-ghost use Rattle.menu_checks.specs.Rows.{broken_rows, player_rows};
+ghost use Rattle.menu_checks.specs.Rows.{sheet_rows, own_rows, broken_rows, player_rows, behind};
 
 pub use counts::{BookCounts, SheetCounts, book_counts, sheet_counts};
 use keys::Ready;
@@ -20,9 +20,10 @@ use player::Player;
 use sheet::Sheet;
 
 // Rows 1 and 5: sheet and player.
-#[tactic(auto, using(laws::specs::Refused::refused, player::specs::Sound::sound_drag), unfolding(laws::specs::Rows::declines, laws::specs::Rows::unless))]
+#[tactic(auto, using(laws::specs::Refused::refused, player::specs::Sound::sound_drag, crate::proofs::Behind::player_parts), unfolding(laws::specs::Rows::declines, laws::specs::Rows::unless))]
 pub fn check_player<'a>(p: &Player, s: &'a [u8]) -> Result<Sheet<'a>, Refusal>
     ensures declined { declined result ≡ declines (player_rows s.now p.now) }
+    ensures parts { declined result ≡ behind (declines (sheet_rows s.now)) (declines (own_rows s.now p.now)) }
     ensures sheet { IfOk result (λ x. x.bytes.now ≡ s.now) }
     ensures player { OnOk result (player_ok s.now p.now ≡ true) }
 {

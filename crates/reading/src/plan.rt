@@ -103,15 +103,17 @@ fn many_contents(sheet: &Sheet<'_>, p: Plan) -> bool
     p.from < p.to && sheet.target(p.from).content + MANY <= sheet.target(p.to - 1).content
 }
 
-// The channel of each target of the run.
+// The channel of each target of the run. The rows' place is summed once.
 fn number_channels(sheet: &Sheet<'_>, names: &Names<'_, '_>, p: Plan, channels: &mut [u16])
     requires run { Run sheet.now.bytes.now p }
     requires room { target_count sheet.now.bytes.now ≤ length channels.old }
     ensures { Numbered sheet.now.bytes.now names.now.book.bytes.now p channels.new p.to }
 {
+    let s = sheet.bytes;
+    let base = sheet::targets_at(s);
     let mut held = None;
     for t in p.from..p.to {
-        let row = sheet.target(t);
+        let row = sheet::target_at(s, base + t * sheet::TARGET_BYTES);
         let now = names.held_for(sheet, p.animation, row.content, held);
         channels[t] = channel_number(row_channel(&names.book, now.reached, row));
         held = Some(now);

@@ -7,7 +7,6 @@ ghost use Rattle.reading.specs.Ready.{ReadyRow};
 
 use crate::Reading;
 use channel::Family;
-use curve::{Keys, Kind};
 use sheet::Target;
 
 // A colour's level, as the Rust: round, clamp, cast.
@@ -46,21 +45,16 @@ fn read_as(f: Family, v: f32, textures: usize) -> Reading
     }
 }
 
-// The value of a target's curve at frame x.
+// The value of a target's curve at frame x: its keys are a part of the whole arrays.
 // Stays over three slices: they need not be one length, and `Keys` asks that they are.
-#[tactic(auto, using(curve::specs::Kind::eval_kind, curve::specs::Kind::ordered_kind), unfolding(crate::specs::Reading::value_at))]
+#[tactic(auto, unfolding(crate::specs::Reading::value_at))]
 #[inline(always)]
 pub fn row_value(frames: &[f32], values: &[f32], slopes: &[f32], x: f32, row: Target) -> f32
     requires { ReadyRow row frames.now values.now slopes.now }
     ensures { result ≡ value_at frames.now values.now slopes.now x row }
 {
-    let end = row.first + row.count;
-    let part = Keys {
-        frames: &frames[row.first..end],
-        values: &values[row.first..end],
-        slopes: &slopes[row.first..end],
-    };
-    part.eval_curve(Kind::of(row.curve), x)
+    let kind = row.curve as u8;
+    curve::eval_part(kind, frames, values, slopes, row.first, row.count, x)
 }
 
 // What a target's row reads at frame x. Stays over three slices: they need not be one length, and `Keys` asks that they are.

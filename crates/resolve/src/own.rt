@@ -80,7 +80,7 @@ fn put_own(book: &Book<'_>, p: usize, own: Own, r: Reading, visible: &mut [u8], 
     }
 }
 
-// The pass, over what the book has, with an animation active at a frame.
+// The pass, over what the book has, with an animation active at a frame. The rows' place is summed once.
 fn sweep_own(menu: &Menu<'_>, names: &Names<'_, '_>, at: At, visible: &mut [u8], alpha: &mut [f32])
     requires names { names.now.book.bytes.now ≡ menu.now.book.bytes.now }
     requires visible_value { visible.old ≡ table (pane_count menu.now.book.bytes.now) (book_bit menu.now.book.bytes.now) }
@@ -89,11 +89,13 @@ fn sweep_own(menu: &Menu<'_>, names: &Names<'_, '_>, at: At, visible: &mut [u8],
     ensures alpha_after { alpha.new ≡ own_alphas menu.now.ready.sheet.bytes.now menu.now.book.bytes.now menu.now.ready.keys.frames.now menu.now.ready.keys.values.now menu.now.ready.keys.slopes.now (active_at at.animation at.frame) }
 {
     let sheet = menu.ready.sheet;
+    let s = sheet.bytes;
     let keys = menu.ready.keys;
+    let base = sheet::targets_at(s);
     let textures = sheet.texture_count();
     let mut held = None;
     for t in 0..sheet.target_count() {
-        let row = sheet.target(t);
+        let row = sheet::target_at(s, base + t * sheet::TARGET_BYTES);
         let Some(own) = own_channel(row) else {
             continue;
         };

@@ -1,6 +1,6 @@
 use Rattle.std.proofs.Common.{arith, ap}
 use Rattle.channel.specs.Held.{holds_for}
-use Rattle.reading.proofs.Planning.{row_content}
+use Rattle.reading.proofs.Planning.{row_is, row_content}
 use Rattle.reading.proofs.Pass.{row_ready}
 use Rattle.resolve.proofs.Pass.{pane_within, pass_none, pass_other, pass_beside, pass_at, pass_all}
 use Rattle.resolve.specs.Own.{own_numbers}
@@ -10,18 +10,18 @@ pub loop-t-init : goal.loop-t-init
 loop-t-init c = (pass_none c.requires.visible_value c.requires.alpha_value, tt)
 
 pub loop-t-preserved-in_default : goal.loop-t-preserved-in_default
-loop-t-preserved-in_default c = (pass_other c.loop-t.invariant.0 (omega arith) c.target-row.ensures c.own_channel.ensures (ap own_numbers c.in_default.is), c.loop-t.invariant.1)
+loop-t-preserved-in_default c = (pass_other c.loop-t.invariant.0 (omega arith) (row_is _ _ c.targets_at-base.ensures c.target_at-row.ensures) c.own_channel.ensures (ap own_numbers c.in_default.is), c.loop-t.invariant.1)
 
 pub held_for-now-requires-clause-content : goal.held_for-now-requires-clause-content
-held_for-now-requires-clause-content c = row_content _ _ c.args.menu.now.ready.sheet.checked (omega arith) c.target-row.ensures
+held_for-now-requires-clause-content c = row_content _ _ c.args.menu.now.ready.sheet.checked (omega arith) (row_is _ _ c.targets_at-base.ensures c.target_at-row.ensures)
 
 pub loop-t-preserved-in_default-pane_in : goal.loop-t-preserved-in_default-pane_in
 loop-t-preserved-in_default-pane_in c =
     let now = rw c.requires.names at c.held_for-now.ensures in
-    (pass_beside c.loop-t.invariant.0 (omega arith) c.target-row.ensures now c.pane_in.ensures c.in_default-pane_in.is, rw now (holds_for _ _ _ _))
+    (pass_beside c.loop-t.invariant.0 (omega arith) (row_is _ _ c.targets_at-base.ensures c.target_at-row.ensures) now c.pane_in.ensures c.in_default-pane_in.is, rw now (holds_for _ _ _ _))
 
 pub row_reading-r-requires : goal.row_reading-r-requires
-row_reading-r-requires c = let r = c.args.menu.now.ready in row_ready _ _ r.sheet.checked r.ready (omega arith) c.target-row.ensures
+row_reading-r-requires c = let r = c.args.menu.now.ready in row_ready _ _ r.sheet.checked r.ready (omega arith) (row_is _ _ c.targets_at-base.ensures c.target_at-row.ensures)
 
 pub put_own-requires-clause-pane : goal.put_own-requires-clause-pane
 put_own-requires-clause-pane c = pane_within _ _ _ _ _ (rw c.requires.names at c.held_for-now.ensures) c.pane_in.ensures c.in-Some-pane_in.is
@@ -29,7 +29,7 @@ put_own-requires-clause-pane c = pane_within _ _ _ _ _ (rw c.requires.names at c
 pub loop-t-preserved : goal.loop-t-preserved
 loop-t-preserved c =
     let now = rw c.requires.names at c.held_for-now.ensures in (
-      pass_at c.loop-t.invariant.0 (omega arith) c.target-row.ensures c.own_channel.ensures (ap own_numbers c.in-Some.is) now c.pane_in.ensures c.in-Some-pane_in.is
+      pass_at c.loop-t.invariant.0 (omega arith) (row_is _ _ c.targets_at-base.ensures c.target_at-row.ensures) c.own_channel.ensures (ap own_numbers c.in-Some.is) now c.pane_in.ensures c.in-Some-pane_in.is
           c.texture_count-textures.ensures c.row_reading-r.ensures (c.put_own.ensures.visible_after, c.put_own.ensures.alpha_after),
       rw now (holds_for _ _ _ _),
     )
