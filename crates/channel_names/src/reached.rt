@@ -2,9 +2,9 @@
 use cli_printed::PANE_CHANNELS;
 use curve::Kind;
 
-const SHEET_BYTES: usize = 94;
+pub const SHEET_BYTES: usize = 94;
 
-const BOOK_BYTES: usize = 76;
+pub const BOOK_BYTES: usize = 76;
 
 // What is changed in the sheet: the content's type, and the target's raw number and curve.
 const TYPE: usize = 41;
@@ -18,7 +18,14 @@ const PANE: u8 = 0;
 
 const PANE_EXT: u8 = 3;
 
-const CURVES: [Kind; 3] = [Kind::Constant, Kind::Step, Kind::Hermite];
+// What else the content and the curve may be than a pane's and a constant.
+const OTHERS: [(u8, Kind); 5] = [
+    (PANE, Kind::Step),
+    (PANE, Kind::Hermite),
+    (PANE_EXT, Kind::Constant),
+    (PANE_EXT, Kind::Step),
+    (PANE_EXT, Kind::Hermite),
+];
 
 // A sheet of one animation, one content and one target, whose one key keeps the rules of every curve; and a book with the content's pane.
 #[derive(Clone, Copy)]
@@ -80,11 +87,9 @@ impl Tried {
     pub fn reached(&mut self, raw: u8) -> Option<usize> {
         self.sheet[RAW] = raw;
         let c = self.with(PANE, Kind::Constant);
-        for content in [PANE, PANE_EXT] {
-            for curve in CURVES {
-                if self.with(content, curve) != c {
-                    return None;
-                }
+        for (content, curve) in OTHERS {
+            if self.with(content, curve) != c {
+                return None;
             }
         }
         c

@@ -35,13 +35,18 @@ fn never_falls(frames: &[f32]) -> bool
 }
 
 // The kind and the keys of a curve that can be read. A Constant's frames may fall.
+#[tactic(auto, using(curve::specs::Kind::number_kind))]
 fn curve_of<'a>(
     kind: u8,
     frames: &'a [f32],
     values: &'a [f32],
     slopes: &'a [f32],
 ) -> Option<(Kind, Keys<'a>)>
-    ensures { IfSome result (λ c. Ordered (number c.0) c.1.frames.now) }
+    ensures kind { IfSome result (λ c. number c.0 ≡ kind) }
+    ensures frames { IfSome result (λ c. c.1.frames.now ≡ frames.now) }
+    ensures values { IfSome result (λ c. c.1.values.now ≡ values.now) }
+    ensures slopes { IfSome result (λ c. c.1.slopes.now ≡ slopes.now) }
+    ensures ordered { IfSome result (λ c. Ordered (number c.0) c.1.frames.now) }
 {
     if kind > LAST_KIND {
         return None;

@@ -1,7 +1,8 @@
 // A whole reading, without a player. Stays with the slices apart: so C lends them.
-ghost use Rattle.std.specs.Prelude.{◌≡◌, length, IfOk};
+ghost use Rattle.std.specs.Prelude.{◌≡◌, length, IsOk, IfOk};
 ghost use Rattle.channel.specs.Channel.{channel_count};
 ghost use Rattle.reading.specs.Plan.{Planned};
+ghost use Rattle.probe.specs.Readable.{CanReadAll};
 
 use book::Book;
 use keys::Ready;
@@ -19,6 +20,12 @@ fn menu_of<'a>(
     marks: usize,
     numbers: usize,
 ) -> Result<Menu<'a>, Refusal>
+    ensures sheet { IfOk result (λ m. m.ready.sheet.bytes.now ≡ s.now) }
+    ensures book { IfOk result (λ m. m.book.bytes.now ≡ b.now) }
+    ensures frames { IfOk result (λ m. m.ready.keys.frames.now ≡ frames.now) }
+    ensures values { IfOk result (λ m. m.ready.keys.values.now ≡ values.now) }
+    ensures slopes { IfOk result (λ m. m.ready.keys.slopes.now ≡ slopes.now) }
+    ensures can_read { IsOk result → CanReadAll s.now b.now frames.now values.now slopes.now marks numbers }
     ensures marks { IfOk result (λ m. marks ≡ channel_count m.book.bytes.now) }
     ensures numbers { IfOk result (λ m. numbers ≡ channel_count m.book.bytes.now) }
 {

@@ -6,6 +6,7 @@ use crate::sample::{Rest, Tally};
 use book::Book;
 use laws::Refusal;
 use laws::refusal::ACCEPTED;
+use std::mem::swap;
 
 // The most bytes of a record: the longest sheet, and one more.
 const MOST: usize = 31725;
@@ -39,15 +40,17 @@ fn stored(refusal: Option<Refusal>) -> u8 {
     }
 }
 
-// Puts bytes at a place, as far as there is room.
-fn put(bytes: &mut [u8], place: usize, from: &[u8]) {
-    for (to, b) in bytes.iter_mut().skip(place).zip(from) {
-        *to = *b;
+// Exchanges bytes with those at a place, as far as there is room. The same once more puts both back.
+fn exchange(bytes: &mut [u8], place: usize, other: &mut [u8]) {
+    if let Some(room) = bytes.get_mut(place..) {
+        for (b, o) in room.iter_mut().zip(other) {
+            swap(b, o);
+        }
     }
 }
 
 // The record that the rest begins with. A change may be longer than the bytes: then what follows them in the sample goes on them.
-// Stays an array: each change begins with a copy of it.
+// Stays an array: a Vec would only add a failure to each record. Each change is made in it, asked about and put back.
 pub fn record<F: Fn(&[u8]) -> Option<Refusal>>(
     refusal_of: F,
     rest: &mut Rest,
@@ -59,7 +62,8 @@ pub fn record<F: Fn(&[u8]) -> Option<Refusal>>(
     let n = rest.count()?;
     let changes = rest.count()?;
     let mut bytes = [0u8; MOST];
-    put(&mut bytes, 0, rest.bytes);
+    let there = rest.bytes.len().min(MOST);
+    bytes[..there].copy_from_slice(&rest.bytes[..there]);
     rest.take(n)?;
     if n > MOST {
         return None;
@@ -67,11 +71,12 @@ pub fn record<F: Fn(&[u8]) -> Option<Refusal>>(
     for _ in 0..changes {
         let long = rest.count()?;
         let place = rest.count()?;
-        let four = rest.next::<4>()?;
+        let mut four = rest.next::<4>()?;
         let [refusal, _] = rest.next::<2>()?;
-        let mut changed = bytes;
-        put(&mut changed, place, &four);
-        tally.count(stored(refusal_of(&changed[..long.min(MOST)])) == refusal);
+        exchange(&mut bytes, place, &mut four);
+        let found = refusal_of(&bytes[..long.min(MOST)]);
+        exchange(&mut bytes, place, &mut four);
+        tally.count(stored(found) == refusal);
     }
     Some(())
 }

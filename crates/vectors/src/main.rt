@@ -11,11 +11,14 @@ mod formats;
 mod sample;
 mod uvs;
 
-use cli_command::{Unusable, try_read};
+ghost use Rattle.std.specs.Prelude.{◌≤◌, length};
+
 use family::Family;
 use sample::{Rest, Tally};
 use std::env::FillError;
+use std::fs::File;
 use std::io;
+use std::io::Read;
 use std::rt::Env;
 
 // The longest sample: what is longer is told so. Stays an array: a Vec would only add a failure.
@@ -38,22 +41,47 @@ fn replayed(bytes: &[u8]) -> Option<(Family, Tally)> {
     None
 }
 
-// The sample in a file; what cannot be read whole is told.
-fn replay_file(rt: HostRuntime, path: &[u8]) -> io::Result<()> {
-    rt.stdout().write_all(path)?;
-    let mut bytes = [0u8; LONGEST + 1];
-    let sample = match try_read(rt, path, &mut bytes) {
-        Ok(n) => replayed(&bytes[..n]),
-        Err(Unusable::Missing | Unusable::Forbidden | Unusable::Shut) => {
-            return print!(rt; ": cannot be opened\n");
+// A file by a name, which is UTF-8 here.
+fn opened(rt: HostRuntime, path: &[u8]) -> Option<File> {
+    let name = std::str::from_utf8(path).ok()?;
+    File::open(&rt, name).ok()
+}
+
+// What is read, to the end of the file or of buf; a read that fails ends it too. Stays by hand: `read_to_end` allocates.
+fn read_full(file: &mut File, buf: &mut [u8]) -> usize
+    ensures { result ≤ length buf.new }
+{
+    let mut done = 0;
+    while done < buf.len() {
+        match file.read(&mut buf[done..]) {
+            Ok(0) | Err(_) => return done,
+            Ok(got) => done += got,
         }
-        Err(Unusable::Long) => return print!(rt; ": too long\n"),
-        Err(Unusable::Folder | Unusable::Unread | Unusable::Empty) => None,
-    };
-    match sample {
-        Some((family, tally)) => print!(rt; ": {family} {tally}\n"),
-        None => print!(rt; ": no whole sample\n"),
     }
+    done
+}
+
+// The sample in a file; what cannot be read whole is told.
+fn say_sample(rt: HostRuntime, path: &[u8]) -> io::Result<()> {
+    let Some(mut file) = opened(rt, path) else {
+        return print!(rt; "cannot be opened\n");
+    };
+    let mut bytes = [0u8; LONGEST + 1];
+    let n = read_full(&mut file, &mut bytes);
+    if n > LONGEST {
+        return print!(rt; "too long\n");
+    }
+    match replayed(&bytes[..n]) {
+        Some((family, tally)) => print!(rt; "{family} {tally}\n"),
+        None => print!(rt; "no whole sample\n"),
+    }
+}
+
+// A file's line. Its name goes out before the file is opened, and each part is tried, whatever became of the one before.
+fn replay_file(rt: HostRuntime, path: &[u8]) {
+    let _ = rt.stdout().write_all(path);
+    let _ = print!(rt; ": ");
+    let _ = say_sample(rt, path);
 }
 
 // A line for each argument. Stays an array, as long as the longest path: the runtime fills what it is lent.
@@ -66,6 +94,6 @@ fn main(rt: HostRuntime) {
             Err(FillError::TooLong) => &name[..0],
             Err(FillError::NotPresent) => return,
         };
-        let _ = replay_file(rt, path);
+        replay_file(rt, path);
     }
 }
