@@ -1,4 +1,4 @@
-// A line of a list of calls: a verb, its whole numbers or names, its numbers. What can't be read is told by the place of the word and what is wrong with it.
+// A line of a list of calls, its comment taken off: a verb, its whole numbers or names, its numbers. What can't be read is told by the place of the word and what is wrong with it.
 #![tactic(auto)]
 
 mod argument;

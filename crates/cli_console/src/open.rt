@@ -1,4 +1,10 @@
 // What `frames` and `replay` begin with: the two files, checked, and the keys loaded.
+ghost use Rattle.std.specs.Prelude.{◌≡◌, IfOk};
+ghost use Rattle.laws.specs.Refusal.{declined};
+ghost use Rattle.laws.specs.Rows.{declines};
+ghost use Rattle.sheet.specs.Sizes.{key_count};
+ghost use Rattle.keys.specs.Load.{load_table};
+
 use crate::check::{say_book, say_sheet};
 use book::Book;
 use cli_command::{LONGEST, argument, needed, read, too_many};
@@ -8,7 +14,11 @@ use laws::Refusal;
 use sheet::Sheet;
 
 // The sheet, where it can be loaded, and else the refusal.
-pub fn loadable<'a>(bytes: &'a [u8]) -> Result<Sheet<'a>, Refusal> {
+#[tactic(auto, unfolding(keys::specs::Load::load_table, laws::specs::Rows::declines, laws::specs::Rows::unless))]
+pub fn loadable<'a>(bytes: &'a [u8]) -> Result<Sheet<'a>, Refusal>
+    ensures declined { declined result ≡ declines (load_table bytes.now (key_count bytes.now) (key_count bytes.now) (key_count bytes.now)) }
+    ensures same { IfOk result (λ sheet. sheet.bytes.now ≡ bytes.now) }
+{
     let n = Sheet::new(bytes)?.key_count();
     keys::check_load(bytes, n, n, n)
 }

@@ -5,7 +5,7 @@ use cli_command::{file_error, progress, progress_end};
 use cli_facts::{Files, Loaded};
 use cli_input::{Input, TooLong};
 use cli_page::{Out, Status};
-use cli_words::{Words, word};
+use cli_words::{Words, uncommented, word};
 use curve::KeysMut;
 use player::Player;
 use std::io::Read;
@@ -91,12 +91,13 @@ fn answer_line(
     }
 }
 
-// The text of a line: the first may begin with a byte order mark, which some editors write.
+// The part of a line that is no comment and no byte order mark, which some editors write in front of the first.
 fn text_of<'a>(line: &'a [u8], number: u64) -> &'a [u8] {
-    match line {
+    let text = match line {
         [239, 187, 191, text @ ..] if number == 1 => text,
         _ => line,
-    }
+    };
+    &text[..uncommented(text)]
 }
 
 // Every line of standard input, or of what stands in its place. What was answered goes out before more is waited for.
@@ -112,7 +113,7 @@ fn each_line<R: Read>(from: &mut R, out: &mut Out, files: Files<'_>, loaded: Loa
     let mut lines = 0;
     // Stays counted: a loop has to end, and nothing says that an input does.
     for number in 1..u64::MAX {
-        if !input.has_line() {
+        if input.may_come() && !input.has_line() {
             out.flush();
         }
         let Some(line) = input.next_line(from) else {

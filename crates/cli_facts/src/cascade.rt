@@ -24,6 +24,7 @@ impl Cascade {
     ghost use Rattle.std.specs.Prelude.{◌≡◌, ◌<◌, eqb, slice_index, get_or};
     ghost use Rattle.std.specs.Float.{nan};
 
+    #[inline(always)]
     pub fn none() -> Cascade {
         Cascade {
             visible: [0; MOST_PANES],
@@ -60,12 +61,17 @@ fn say_state(out: &mut Out, lead: Lead, book: Book<'_>, i: usize, state: Cascade
 // Every pane's state, or the refusal.
 pub fn say_cascade(out: &mut Out, lead: Lead, screen: Screen<'_>) {
     let book = screen.book;
-    match screen.cascade() {
-        Ok(cascade) => {
-            for i in 0..book.pane_count() {
-                say_state(out, lead, book, i, cascade.pane(i));
-            }
-        }
-        Err(refusal) => lead.say_refusal(out, refusal),
+    let n = book.pane_count();
+    let mut cascade = Cascade::none();
+    let made = screen.cascade_into(
+        &mut cascade.visible[..n],
+        &mut cascade.alpha[..n],
+        &mut cascade.influence[..n],
+    );
+    if let Err(refusal) = made {
+        return lead.say_refusal(out, refusal);
+    }
+    for i in 0..n {
+        say_state(out, lead, book, i, cascade.pane(i));
     }
 }

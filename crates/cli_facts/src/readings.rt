@@ -30,6 +30,7 @@ impl Overrides {
     ghost use Rattle.std.specs.Prelude.{◌≡◌, ◌<◌, ◌↔◌, IsSome, IfSome, slice_index, get_or};
     ghost use Rattle.std.specs.Float.{nan};
 
+    #[inline(always)]
     pub fn none() -> Overrides {
         Overrides {
             marks: [0; MOST_CHANNELS],
@@ -93,11 +94,12 @@ fn say_override(out: &mut Out, screen: Screen<'_>, place: Place, x: f32)
 #[tactic(auto, unfolding(channel::specs::Channel::channel_count))]
 pub fn say_readings(out: &mut Out, lead: Lead, screen: Screen<'_>) {
     let book = screen.book;
-    let all = match screen.read_all() {
-        Ok(all) => all,
-        Err(refusal) => return lead.say_refusal(out, refusal),
-    };
-    for c in 0..channel::channel_count(&book) {
+    let n = channel::channel_count(&book);
+    let mut all = Overrides::none();
+    if let Err(refusal) = screen.read_into(&mut all.marks[..n], &mut all.numbers[..n]) {
+        return lead.say_refusal(out, refusal);
+    }
+    for c in 0..n {
         let Some(x) = all.at(c) else {
             continue;
         };

@@ -47,41 +47,58 @@ impl<'a> Screen<'a> {
         Ok(one.reading)
     }
 
-    // Every channel.
-    #[tactic(auto, unfolding(channel::specs::Channel::channel_count))]
-    pub fn read_all(self) -> Result<Overrides, Refusal> {
-        let n = channel::channel_count(&self.book);
-        let mut all = Overrides::none();
-        let refusal = menu_readings::read_all(
+    // Every channel, into tables that are lent: a table that is handed back is copied, which costs a small menu more than its reading.
+    pub fn read_into(self, marks: &mut [u8], numbers: &mut [f32]) -> Result<(), Refusal> {
+        accepted(menu_readings::read_all(
             *self.player,
             self.lent.sheet,
             self.book.bytes,
             self.lent.frames,
             self.lent.values,
             self.lent.slopes,
-            &mut all.marks[..n],
-            &mut all.numbers[..n],
-        );
-        accepted(refusal)?;
+            marks,
+            numbers,
+        ))
+    }
+
+    // Every channel.
+    #[tactic(auto, unfolding(channel::specs::Channel::channel_count))]
+    pub fn read_all(self) -> Result<Overrides, Refusal> {
+        let n = channel::channel_count(&self.book);
+        let mut all = Overrides::none();
+        self.read_into(&mut all.marks[..n], &mut all.numbers[..n])?;
         Ok(all)
+    }
+
+    // Every pane under its parents, into tables that are lent.
+    pub fn cascade_into(
+        self,
+        visible: &mut [u8],
+        alpha: &mut [f32],
+        influence: &mut [f32],
+    ) -> Result<(), Refusal> {
+        accepted(menu_readings::cascade(
+            *self.player,
+            self.lent.sheet,
+            self.book.bytes,
+            self.lent.frames,
+            self.lent.values,
+            self.lent.slopes,
+            visible,
+            alpha,
+            influence,
+        ))
     }
 
     // Every pane under its parents.
     pub fn cascade(self) -> Result<Cascade, Refusal> {
         let n = self.book.pane_count();
         let mut all = Cascade::none();
-        let refusal = menu_readings::cascade(
-            *self.player,
-            self.lent.sheet,
-            self.book.bytes,
-            self.lent.frames,
-            self.lent.values,
-            self.lent.slopes,
+        self.cascade_into(
             &mut all.visible[..n],
             &mut all.alpha[..n],
             &mut all.influence[..n],
-        );
-        accepted(refusal)?;
+        )?;
         Ok(all)
     }
 

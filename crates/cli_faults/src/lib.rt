@@ -29,7 +29,7 @@ fn say_there(out: &mut Out, fault: Fault) {
 }
 
 // `: PART ROW, FIELD, byte N: is X, may be Y`.
-fn say_fault(out: &mut Out, fault: Fault) {
+pub fn say_fault(out: &mut Out, fault: Fault) {
     say_part(out, fault);
     say_field(out, fault.rule);
     out.count(", byte ", "offset", fault.at as u64);

@@ -1,8 +1,8 @@
 // The digits after the point of an f32, all of them: a fraction of 60 binary places at most has as many decimal ones.
 ghost use Rattle.std.specs.Prelude.{◌<◌, ◌≤◌};
+ghost use Rattle.io.specs.Counts.{IsPrefixLen};
 
 use cli_page::Out;
-use std::fmt::Write;
 
 // The most binary places, so that ten times a denominator fits a u64.
 const PLACES: u32 = 60;
@@ -15,19 +15,25 @@ fn doubled(places: u32) -> u64
     2u64.pow(places.min(PLACES))
 }
 
-// The decimal digits of f / scale, until nothing is left.
-fn say_digits(out: &mut Out, f: u64, scale: u64)
+// The last decimal digit of n.
+pub fn digit(n: u64) -> u8 {
+    b'0' + (n % 10) as u8
+}
+
+// Puts the decimal digits of f / scale into the room until nothing is left, and answers how many there are.
+fn digits(f: u64, scale: u64, room: &mut [u8]) -> usize
     requires { (f < scale) × (scale ≤ 1152921504606846976) }
+    ensures { IsPrefixLen result room.new }
 {
     let mut left = f;
-    for _ in 0..PLACES {
+    for at in 0..room.len() {
         if left == 0 {
-            return;
+            return at;
         }
-        let digit = left * 10 / scale;
-        let _ = write!(out, "{digit}");
+        room[at] = digit(left * 10 / scale);
         left = left * 10 % scale;
     }
+    room.len()
 }
 
 // The point, and the digits that m / 2^places has behind it.
@@ -35,8 +41,10 @@ fn say_fraction(out: &mut Out, m: u64, places: u32) {
     let scale = doubled(places);
     let f = m % scale;
     if f > 0 {
+        let mut room = [0u8; PLACES as usize];
+        let n = digits(f, scale, &mut room);
         out.say(".");
-        say_digits(out, f, scale);
+        out.say_bytes(&room[..n]);
     }
 }
 

@@ -4,7 +4,7 @@ ghost use Rattle.std.specs.Prelude.{◌≡◌, ◌<◌, ◌≤◌, IfSome};
 ghost use Rattle.cli_numbers.specs.Text.{Shown, hex_text};
 ghost use Rattle.cli_numbers.specs.Text.{glyph as glyph_of};
 
-use crate::exact::say_exact;
+use crate::exact::{digit, say_exact};
 use arrayvec::ArrayString;
 use cli_page::Out;
 use cli_words::TOO_LARGE;
@@ -62,6 +62,13 @@ fn hex_text(n: u32) -> [u8; 10]
         glyph(n / 16 % 16),
         glyph(n % 16),
     ]
+}
+
+// All digits of a whole number.
+fn say_whole(out: &mut Out, n: u64) {
+    let mut text = [0u8; 20];
+    let k = io::decimal(n, &mut text);
+    out.say_bytes(&text[..k]);
 }
 
 impl Signed {
@@ -150,11 +157,11 @@ impl Signed {
             out.say("2^64+");
             return;
         }
-        let whole = float::cut_u64(self.size);
-        let _ = write!(out, "{whole}");
+        say_whole(out, float::cut_u64(self.size));
         if self.size < 8388608.0 {
-            let part = float::cut_u64(float::remainder(self.size, 1.0) * 1000.0) % 1000;
-            let _ = write!(out, ".{part:03}");
+            let part = float::cut_u64(float::remainder(self.size, 1.0) * 1000.0);
+            out.say(".");
+            out.say_bytes(&[digit(part / 100), digit(part / 10), digit(part)]);
         }
     }
 
@@ -174,8 +181,7 @@ impl Signed {
             self.say_bits(out);
         } else {
             self.say_sign(out);
-            let whole = float::cut_u64(self.size);
-            let _ = write!(out, "{whole}");
+            say_whole(out, float::cut_u64(self.size));
             say_exact(out, self.bits % 2147483648);
         }
     }

@@ -4,5 +4,7 @@
 mod bare;
 mod member;
 mod out;
+mod page;
 
 pub use out::{Out, Status};
+pub use page::{PAGE, Page};

@@ -1,7 +1,6 @@
 // A line of output is text, or a JSON object a member of which has a key. Each function here writes both forms of one thing: `before` stands in front of it
 // in the text, `name` is its key in the object.
 use crate::out::Out;
-use std::fmt::Write;
 
 impl Out {
     // A line begins.
@@ -59,7 +58,9 @@ impl Out {
     // A value that is a whole number.
     pub fn count(&mut self, before: &str, name: &str, n: u64) {
         self.key(before, name);
-        let _ = write!(self, "{n}");
+        let mut text = [0u8; 20];
+        let k = io::decimal(n, &mut text);
+        self.say_bytes(&text[..k]);
     }
 
     // A value that is yes or no.

@@ -1,12 +1,7 @@
 // Standard output by pages. A write for each word would cost more than all else: a frame of a menu has some thirty lines of eleven words.
-ghost use Rattle.std.specs.Prelude.{◌≡◌, ◌++◌, ◌≤◌, ◌+◌, [], length};
-ghost use Rattle.arrayvec.specs.ArrayVec.{array_vec_len};
-
-use arrayvec::ArrayVec;
+use crate::page::{PAGE, Page};
 use std::fmt;
 use std::io::Print;
-
-const PAGE: usize = 65536;
 
 // What a command came to, which is its exit status: the largest of what its parts came to. Wrong use, and a file that can't be read or written, are `Wrong`.
 // Stays an enum of its own: three outcomes by their rank, and a `Result` has two.
@@ -20,10 +15,10 @@ pub enum Status {
 // What is on the page is not written yet. `lost`: a write failed. `json`: lines are JSON objects; `bare`: the object has no member yet.
 // `aside`: an error that ends a command goes to standard error. `told`: progress is shown. `rt`: by it what has an `Out` writes, and opens files.
 // Stays a flag, `json`: each thing that is said tells its two forms side by side.
-#[derive(Drop)]
+#[derive(Clone, Copy)]
 pub struct Out {
     pub rt: HostRuntime,
-    pub page: ArrayVec<u8, PAGE>,
+    pub page: Page,
     pub lost: bool,
     pub json: bool,
     pub bare: bool,
@@ -33,14 +28,14 @@ pub struct Out {
 }
 
 impl Out {
-    ghost use Rattle.std.specs.Prelude.{◌≡◌, ◌++◌, ◌≤◌, ◌+◌, [], length};
-    ghost use Rattle.arrayvec.specs.ArrayVec.{array_vec_len};
+    ghost use Rattle.std.specs.Prelude.{◌≡◌, ◌++◌, ◌<◌, ◌≤◌, ◌+◌, [], length};
+    ghost use Rattle.cli_page.specs.Page.{items};
 
     // Lines of text, all of them on standard output.
     pub fn new(rt: HostRuntime) -> Out {
         Out {
             rt,
-            page: ArrayVec::new(),
+            page: Page::new(),
             lost: false,
             json: false,
             bare: true,
@@ -57,7 +52,7 @@ impl Out {
 
     // What is on the page goes to a stream.
     fn flush_to<P: Print>(&mut self, to: &P)
-        ensures { self.new.page.items ≡ [] }
+        ensures { items self.new.page ≡ [] }
     {
         if to.write_all(self.page.as_slice()).is_err() {
             self.lost = true;
@@ -67,7 +62,7 @@ impl Out {
 
     // What is on the page goes to standard output.
     pub fn flush(&mut self)
-        ensures { self.new.page.items ≡ [] }
+        ensures { items self.new.page ≡ [] }
     {
         let to = self.rt.stdout();
         self.flush_to(&to);
@@ -75,7 +70,7 @@ impl Out {
 
     // What is on the page is an error, and goes where errors go.
     pub fn flush_error(&mut self)
-        ensures { self.new.page.items ≡ [] }
+        ensures { items self.new.page ≡ [] }
     {
         if self.json | !self.aside {
             self.flush();
@@ -85,16 +80,20 @@ impl Out {
         }
     }
 
-    // The bytes behind all that was said before.
+    // The bytes behind all that was said before. A page that they would fill goes out first, and where they would fill one alone, they go out as they are.
     pub fn say_bytes(&mut self, text: &[u8])
-        ensures { array_vec_len self.old.page + length text.now ≤ 65536 → self.new.page.items ≡ self.old.page.items ++ text.now }
+        ensures room { length (items self.old.page) + length text.now < 65536 → items self.new.page ≡ items self.old.page ++ text.now }
+        ensures next { 65536 ≤ length (items self.old.page) + length text.now → length text.now < 65536 → items self.new.page ≡ text.now }
+        ensures long { 65536 ≤ length text.now → items self.new.page ≡ [] }
     {
-        if self.page.try_extend_from_slice(text).is_ok() {
+        if self.page.has_room(text.len()) {
+            self.page.push(text);
             return;
         }
         self.flush();
-        let fits = self.page.try_extend_from_slice(text).is_ok();
-        if !fits && self.rt.stdout().write_all(text).is_err() {
+        if text.len() < PAGE {
+            self.page.push(text);
+        } else if self.rt.stdout().write_all(text).is_err() {
             self.lost = true;
         }
     }

@@ -1,12 +1,15 @@
 // Names, as a 24-byte field holds them.
-ghost use Rattle.std.specs.Prelude.{◌<◌};
+ghost use Rattle.std.specs.Prelude.{◌≡◌, ◌==◌, ◌-◌, ◌<◌, length, take};
+ghost use Rattle.std.specs.List.{suffix_len};
 ghost use Rattle.book.specs.Sizes.{pane_count, material_count};
 
 use book::Book;
 use cli_page::Out;
 
 // A name without the zero bytes at its end.
-fn counted(field: &[u8]) -> &[u8] {
+fn counted(field: &[u8]) -> &[u8]
+    ensures { result.now ≡ take (length field.now - suffix_len (λ b. b == 0) field.now) field.now }
+{
     match field.iter().rposition(|b| *b != 0) {
         Some(last) => &field[..last + 1],
         None => &field[..0],

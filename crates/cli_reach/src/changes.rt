@@ -2,7 +2,7 @@
 ghost use Rattle.std.specs.Prelude.{◌<◌};
 ghost use Rattle.sheet.specs.Sizes.{target_count};
 
-use crate::compared::Compared;
+use crate::compared::{Compared, Track};
 use crate::runs::Runs;
 use cli_page::Out;
 use reading::Reading;
@@ -79,11 +79,14 @@ pub fn say_changes(out: &mut Out, compared: Compared<'_>, t: usize, end: u32)
     requires { t < target_count compared.sets.old.sheet.bytes.now }
 {
     let sheet = compared.sets.old.sheet;
+    let old = Track::of(compared.before().ready, t);
+    let new = Track::of(compared.after().ready, t);
     let mut runs = Runs::begin(out);
     let mut largest: Option<Change> = None;
     for f in 0..end {
         let at = f as u64;
-        let (before, after) = compared.readings(t, f);
+        let x = std::num::nearest_u32_to_f32(f);
+        let (before, after) = (old.reading(x), new.reading(x));
         let same = reach::same_reading(before, after);
         runs.next(out, at, !same);
         if same {

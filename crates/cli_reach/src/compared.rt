@@ -1,11 +1,12 @@
 // What is compared: two sets of keys of one sheet, over a book.
-ghost use Rattle.std.specs.Prelude.{◌<◌};
-ghost use Rattle.sheet.specs.Sizes.{target_count};
+ghost use Rattle.reading.specs.Ready.{ReadyRow};
 
 use book::Book;
+use curve::Keys;
 use keys::Ready;
 use reach::TwoSets;
 use reading::{Menu, Reading, row_reading};
+use sheet::Target;
 
 #[derive(Clone, Copy)]
 pub struct Compared<'a> {
@@ -13,25 +14,46 @@ pub struct Compared<'a> {
     pub book: Book<'a>,
 }
 
-// What track t reads at frame x.
-#[tactic(auto, using(reading::specs::Ready::keys_row))]
-fn track_reading(ready: Ready<'_>, t: usize, x: f32) -> Reading
-    requires { t < target_count ready.sheet.bytes.now }
-{
-    let keys = ready.keys;
-    row_reading(
-        keys.frames,
-        keys.values,
-        keys.slopes,
-        x,
-        ready.sheet.target(t),
-        ready.sheet.texture_count(),
-    )
+// A track with its keys. Its row, and how many textures there are, don't change from frame to frame.
+#[derive(Clone, Copy)]
+pub struct Track<'a> {
+    keys: Keys<'a>,
+    row: Target,
+    textures: usize,
+    ghost ready: { ReadyRow row keys.frames.now keys.values.now keys.slopes.now },
+}
+
+impl<'a> Track<'a> {
+    ghost use Rattle.std.specs.Prelude.{◌<◌};
+    ghost use Rattle.sheet.specs.Sizes.{target_count};
+
+    #[tactic(auto, using(reading::specs::Ready::keys_row))]
+    pub fn of(ready: Ready<'a>, t: usize) -> Track<'a>
+        requires { t < target_count ready.sheet.bytes.now }
+    {
+        Track {
+            keys: ready.keys,
+            row: ready.sheet.target(t),
+            textures: ready.sheet.texture_count(),
+        }
+    }
+
+    // What it reads at frame x.
+    pub fn reading(&self, x: f32) -> Reading {
+        let keys = self.keys;
+        row_reading(
+            keys.frames,
+            keys.values,
+            keys.slopes,
+            x,
+            self.row,
+            self.textures,
+        )
+    }
 }
 
 impl<'a> Compared<'a> {
-    ghost use Rattle.std.specs.Prelude.{◌≡◌, ◌<◌};
-    ghost use Rattle.sheet.specs.Sizes.{target_count};
+    ghost use Rattle.std.specs.Prelude.{◌≡◌};
 
     // The menu before the edits.
     pub fn before(self) -> Menu<'a>
@@ -57,16 +79,5 @@ impl<'a> Compared<'a> {
             },
             book: self.book,
         }
-    }
-
-    // What track t reads at a frame before the edits and after them.
-    pub fn readings(self, t: usize, frame: u32) -> (Reading, Reading)
-        requires { t < target_count self.sets.old.sheet.bytes.now }
-    {
-        let x = std::num::nearest_u32_to_f32(frame);
-        (
-            track_reading(self.before().ready, t, x),
-            track_reading(self.after().ready, t, x),
-        )
     }
 }

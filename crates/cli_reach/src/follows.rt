@@ -19,7 +19,8 @@ const GROUP: usize = 32;
 // Progress is told each time this many frames are done.
 const EVERY: u64 = 1000;
 
-// The cascade of animation a at frame x.
+// The cascade of animation a at frame x. Inlined, so that its tables are not copied.
+#[inline(always)]
 fn cascade_of(menu: &Menu<'_>, a: usize, x: f32) -> Cascade {
     let n = menu.book.pane_count();
     let mut cascade = Cascade::none();
@@ -43,13 +44,13 @@ fn is_same(before: Cascaded, after: Cascaded) -> bool {
     (before.visible == after.visible) & reach::same_reading(alpha, other)
 }
 
-// A bit for each of 32 panes from `from` on, set where frame f of animation a shows the pane otherwise.
-fn bits_at(compared: Compared<'_>, a: usize, f: u32, from: usize) -> u32
+// A bit for each of 32 panes from `from` on, set where frame f of animation a shows the pane otherwise after the edits.
+fn bits_at(before: &Menu<'_>, after: &Menu<'_>, a: usize, f: u32, from: usize) -> u32
     requires { from ≤ 32 }
 {
     let x = std::num::nearest_u32_to_f32(f);
-    let before = cascade_of(&compared.before(), a, x);
-    let after = cascade_of(&compared.after(), a, x);
+    let before = cascade_of(before, a, x);
+    let after = cascade_of(after, a, x);
     let mut bits = 0u32;
     for k in 0..32u32 {
         let pane = from + k as usize;
@@ -88,8 +89,10 @@ fn say_group(out: &mut Out, compared: Compared<'_>, a: usize, marks: &Marks, fro
     let end = frames_end(compared.sets.old.sheet, a);
     // Stays a word for every frame that an animation can have: nothing allocates.
     let mut bits = [0u32; 65536];
+    let before = compared.before();
+    let after = compared.after();
     for f in 0..end {
-        bits[f as usize] = bits_at(compared, a, f, from);
+        bits[f as usize] = bits_at(&before, &after, a, f, from);
         cli_command::progress(out, f as u64 + 1, Some(end as u64), EVERY, " frames");
     }
     cli_command::progress_end(out, end as u64, EVERY);

@@ -1,9 +1,14 @@
 // Sheets that differ in more than keys: the first part of the new one that is not as in the old one.
+ghost use Rattle.std.specs.Prelude.{◌≤◌, length};
+
 use cli_page::{Out, Status};
 use sheet::{ANIMATION_BYTES, Sheet};
 
 // Where two sheets differ: the first byte that does, or the end of the shorter.
-fn difference_at(s: &[u8], t: &[u8]) -> usize {
+fn difference_at(s: &[u8], t: &[u8]) -> usize
+    ensures in_one { result ≤ length s.now }
+    ensures in_other { result ≤ length t.now }
+{
     let shorter = s.len().min(t.len());
     s.iter().zip(t).position(|(a, b)| a != b).unwrap_or(shorter)
 }

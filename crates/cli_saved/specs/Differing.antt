@@ -50,7 +50,7 @@ unfolding differing
 none_differing a b l e =
     ext_get_or 0 a b l (λ i k. same_at_lem a b i (omega (arith, e, sum_within (length a) i (unlike a b) k)))
 
--- What a loop that counts i up to the length of a, and has seen n of the places so far differ, keeps: its invariant.
+-- n of the first i places of a differ: what each step of a count place by place keeps, and at the end `differing`.
 pub record Counted (a b : List ℕ) (i n : ℕ) : Type 0 where
   pub within : i ≤ length a
   pub few : n ≤ i

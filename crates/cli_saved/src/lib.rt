@@ -36,7 +36,7 @@ fn cannot_write(out: &mut Out, path: &[u8], why: Unwritten) {
     out.end();
 }
 
-// Saves, to a file where one is named, and answers with the line's end. Where the file can't be written, that is said in the answer's place.
+// Saves, to a file where path has bytes, and answers with the line's end. Where the file can't be written, that is said in the answer's place.
 // Stays over three slices: they need not be one length.
 pub fn save(
     out: &mut Out,
@@ -47,6 +47,7 @@ pub fn save(
     slopes: &[f32],
     path: Option<&[u8]>,
 ) {
+    let path = path.filter(|path| !path.is_empty());
     let loaded = sheet.bytes;
     // Stays an array of the longest file: nothing allocates.
     let mut room = [0u8; LONGEST];

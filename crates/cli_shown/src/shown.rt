@@ -7,7 +7,6 @@ use cli_facts::{Files, Lead, Screen, slot_of};
 use cli_page::Out;
 use cli_printed::Owner;
 use cli_why::say_declined;
-use keys::Ready;
 use laws::Refusal;
 use menu_checks::Lent;
 use player::Player;
@@ -92,14 +91,11 @@ pub fn show(
             cli_facts::say_cascade(out, Lead::Line(line), screen);
             return;
         }
-        Query::Keys => match Ready::lent(sheet, frames, values, slopes) {
-            Ok(ready) => {
-                out.end();
-                say_keys(out, line, ready);
-                return;
-            }
-            Err(refusal) => Err(refusal),
-        },
+        Query::Keys => {
+            out.end();
+            say_keys(out, line, sheet, frames, values, slopes);
+            return;
+        }
     };
     if let Err(refusal) = shown {
         say_declined(out, refusal, player.selection, Call::Show(query), files);

@@ -5,32 +5,66 @@ ghost use Rattle.sheet.specs.Sizes.{target_count};
 use cli_numbers::number;
 use cli_page::Out;
 use curve::Key;
-use keys::Ready;
+use sheet::Sheet;
+
+// A number that isn't there is left out.
+fn say_number(out: &mut Out, words: &str, name: &str, x: Option<f32>) {
+    if let Some(x) = x {
+        number(out, words, name, x);
+    }
+}
+
+fn say_numbers(out: &mut Out, frame: Option<f32>, value: Option<f32>, slope: Option<f32>) {
+    say_number(out, " frame ", "frame", frame);
+    say_number(out, " value ", "value", value);
+    say_number(out, " slope ", "slope", slope);
+}
 
 // A key's numbers, as they are stored.
 pub fn say_key(out: &mut Out, key: Key) {
-    number(out, " frame ", "frame", key.frame);
-    number(out, " value ", "value", key.value);
-    number(out, " slope ", "slope", key.slope);
+    say_numbers(out, Some(key.frame), Some(key.value), Some(key.slope));
 }
 
 // The keys of a track, each on a line.
-fn say_track(out: &mut Out, line: u64, track: usize, ready: Ready<'_>)
-    requires { track < target_count ready.sheet.bytes.now }
+#[tactic(auto, using(sheet::specs::Checked::target_keys))]
+fn say_track(
+    out: &mut Out,
+    line: u64,
+    track: usize,
+    sheet: Sheet<'_>,
+    frames: &[f32],
+    values: &[f32],
+    slopes: &[f32],
+)
+    requires { track < target_count sheet.bytes.now }
 {
-    let keys = ready.part(track);
-    for key in 0..keys.len() {
+    let row = sheet.target(track);
+    for key in 0..row.count {
+        let at = row.first + key;
         out.begin();
         cli_facts::say_line(out, line);
         out.count("track ", "track", track as u64);
         out.count(" key ", "key", key as u64);
-        say_key(out, keys.key(key));
+        say_numbers(
+            out,
+            frames.get(at).copied(),
+            values.get(at).copied(),
+            slopes.get(at).copied(),
+        );
         out.end();
     }
 }
 
-pub fn say_keys(out: &mut Out, line: u64, ready: Ready<'_>) {
-    for track in 0..ready.sheet.target_count() {
-        say_track(out, line, track, ready);
+// Stays over three slices: they are listed as they are, unlike lengths and broken rules too.
+pub fn say_keys(
+    out: &mut Out,
+    line: u64,
+    sheet: Sheet<'_>,
+    frames: &[f32],
+    values: &[f32],
+    slopes: &[f32],
+) {
+    for track in 0..sheet.target_count() {
+        say_track(out, line, track, sheet, frames, values, slopes);
     }
 }

@@ -6,6 +6,7 @@ use cli_calls::{Action, Call, Query};
 use cli_facts::Files;
 use cli_page::Out;
 use cli_printed::Owner;
+use edit::NONE;
 use laws::Refusal;
 use sheet::Sheet;
 
@@ -100,6 +101,20 @@ fn no_layer(out: &mut Out, material: u16, book: Book<'_>) {
     );
 }
 
+// The first whole number of a call that names no pane and no material, and 0 where it takes none.
+fn first_whole(call: Call<'_>) -> u16 {
+    match call {
+        Call::Make(
+            Action::Key { track, .. } | Action::Slope { track, .. } | Action::Open { track, .. },
+        ) => track,
+        Call::Make(Action::Play { animation } | Action::Pose { animation, .. }) => {
+            animation.unwrap_or(NONE)
+        }
+        Call::Show(Query::Next { animation }) => animation,
+        _ => 0,
+    }
+}
+
 // Row 7: what there isn't.
 fn none_such(out: &mut Out, active: u16, call: Call<'_>, files: Files<'_>) {
     let Files { sheet, book } = files;
@@ -109,10 +124,7 @@ fn none_such(out: &mut Out, active: u16, call: Call<'_>, files: Files<'_>) {
         Call::Show(Query::ResolveSrt { material, .. } | Query::Name { material, .. }) => {
             no_layer(out, material, book);
         }
-        Call::Make(
-            Action::Key { track, .. } | Action::Slope { track, .. } | Action::Open { track, .. },
-        ) => no_track(out, active, track, sheet),
-        _ => cli_printed::meaning(out, Refusal::NoSuchRow),
+        _ => no_track(out, active, first_whole(call), sheet),
     }
 }
 
@@ -123,10 +135,10 @@ fn not_finite(call: Call<'_>) -> &'static str {
             "the seconds, the frames per second or the frame that they lead to is not finite"
         }
         Call::Make(Action::Slope { .. }) => "the slope is not finite",
-        Call::Make(Action::Key { frame, .. } | Action::Drag { frame, .. }) if frame.is_finite() => {
-            "the value is not finite"
-        }
-        _ => "the frame is not finite",
+        Call::Make(Action::Pose { .. }) => "the frame is not finite",
+        Call::Make(Action::Key { frame, .. } | Action::Drag { frame, .. }) if !frame.is_finite() =>
+            { "the frame is not finite" }
+        _ => "the value is not finite",
     }
 }
 

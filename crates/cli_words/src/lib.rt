@@ -4,5 +4,5 @@
 mod number;
 mod part;
 
-pub use number::{TOO_LARGE, pattern, read_number, whole};
-pub use part::{Pieces, Words, is_quoted, unquoted, word};
+pub use number::{Decimal, TOO_LARGE, pattern, read_number, whole};
+pub use part::{Pieces, Words, is_quoted, uncommented, unquoted, word};

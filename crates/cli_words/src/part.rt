@@ -1,5 +1,5 @@
 // The parts of a text: the words of a line, and pieces that end with a zero byte.
-ghost use Rattle.std.specs.Prelude.{◌<◌, ◌≤◌, length};
+ghost use Rattle.std.specs.Prelude.{◌≡◌, ◌<◌, ◌≤◌, length, slice_index};
 ghost use Rattle.std.specs.Iterator.{at_most};
 
 // What stands between two words.
@@ -20,7 +20,7 @@ fn word_len(text: &[u8]) -> usize
     end.unwrap_or(text.len())
 }
 
-// The words of a line, in quotes where they have them, up to its comment: a word that begins with #.
+// The words of a line, in quotes where they have them.
 #[derive(Drop)]
 pub struct Words<'a> {
     pub rest: &'a [u8],
@@ -34,9 +34,6 @@ impl<'a> Iterator for Words<'a> {
     fn next(&mut self) -> Option<&'a [u8]> {
         let start = self.rest.iter().position(|b| !is_gap(*b))?;
         let text = &self.rest[start..];
-        if text[0] == b'#' {
-            return None;
-        }
         let (word, rest) = text.split_at(word_len(text));
         self.rest = rest;
         Some(word)
@@ -52,6 +49,22 @@ impl<'a> Words<'a> {
 // Word number k of a line, the first being 0.
 pub fn word<'a>(line: &'a [u8], k: usize) -> Option<&'a [u8]> {
     Words::new(line).nth(k)
+}
+
+// How many bytes of a line stand before its comment, a word that begins with #.
+pub fn uncommented(line: &[u8]) -> usize
+    ensures within { result ≤ length line.now }
+    ensures comment { result < length line.now → slice_index line.now result ≡ 35 }
+{
+    let mut at = 0;
+    while let Some(gap) = line[at..].iter().position(|b| !is_gap(*b)) {
+        at += gap;
+        if line[at] == b'#' {
+            return at;
+        }
+        at += word_len(&line[at..]);
+    }
+    line.len()
 }
 
 pub fn is_quoted(w: &[u8]) -> bool {

@@ -1,0 +1,2 @@
+-- What a lent line leaves of its input. A definition, which the contract cites.
+pub mod Left
