@@ -13,7 +13,8 @@ const ROOM: usize = 255;
 #[derive(Clone, Copy, Debug, PartialEq, Eq)]
 pub struct TooLong;
 
-// A line, as far as it was read: the first `length` bytes of its room; `long` says that it has more than these.
+// A line, as far as it was read: the first `length` bytes of its room; `long` says that it has more than these. Stays an array with a count and
+// a switch: the kit's vector is no Copy, and a Vec allocates.
 #[derive(Clone, Copy)]
 struct Line {
     room: [u8; ROOM],
@@ -164,7 +165,7 @@ impl Input {
         }
     }
 
-    // Reads the next line.
+    // Reads the next line. Stays a while: nothing says in how many pieces a line comes.
     fn read_line<R: Read>(&mut self, from: &mut R)
         ensures { 0 < self.old.left → self.new.left < self.old.left }
     {

@@ -15,7 +15,7 @@ fn doubled(places: u32) -> u64
     2u64.pow(places.min(PLACES))
 }
 
-// The last decimal digit of n.
+// The last decimal digit of n. Stays a byte: it is a character of the text.
 pub fn digit(n: u64) -> u8 {
     b'0' + (n % 10) as u8
 }

@@ -64,7 +64,7 @@ fn hex_text(n: u32) -> [u8; 10]
     ]
 }
 
-// All digits of a whole number.
+// All digits of a whole number. Stays on an array, of the most digits: nothing allocates.
 fn say_whole(out: &mut Out, n: u64) {
     let mut text = [0u8; 20];
     let k = io::decimal(n, &mut text);

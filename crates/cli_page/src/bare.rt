@@ -4,7 +4,7 @@ use crate::out::Out;
 // The digits of a byte that is told by its number.
 static DIGITS: &[u8; 16] = b"0123456789abcdef";
 
-// Whether a byte stands for itself on a line, or in a JSON string.
+// Whether a byte stands for itself on a line, or in a JSON string. Stays by a switch: it is the page's own, and which bytes stand for themselves depends on it.
 fn is_plain(b: u8, json: bool) -> bool {
     matches!(b, b' '..=b'~') && !(json && matches!(b, b'"' | b'\\'))
 }

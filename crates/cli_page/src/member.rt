@@ -55,7 +55,7 @@ impl Out {
         }
     }
 
-    // A value that is a whole number.
+    // A value that is a whole number. Stays on an array, of the most digits: nothing allocates.
     pub fn count(&mut self, before: &str, name: &str, n: u64) {
         self.key(before, name);
         let mut text = [0u8; 20];

@@ -38,7 +38,8 @@ impl<'a> Track<'a> {
         }
     }
 
-    // What it reads at frame x.
+    // What it reads at frame x. Inlined, as what it calls is: a call would copy the row at each frame.
+    #[inline(always)]
     pub fn reading(&self, x: f32) -> Reading {
         let keys = self.keys;
         row_reading(

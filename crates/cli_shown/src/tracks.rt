@@ -25,7 +25,7 @@ pub fn say_key(out: &mut Out, key: Key) {
     say_numbers(out, Some(key.frame), Some(key.value), Some(key.slope));
 }
 
-// The keys of a track, each on a line.
+// The keys of a track, each on a line. Stays over three slices, as what calls it.
 #[tactic(auto, using(sheet::specs::Checked::target_keys))]
 fn say_track(
     out: &mut Out,

@@ -101,7 +101,8 @@ fn no_layer(out: &mut Out, material: u16, book: Book<'_>) {
     );
 }
 
-// The first whole number of a call that names no pane and no material, and 0 where it takes none.
+// The first whole number of a call that names no pane and no material, and 0 where it takes none: those row 7 doesn't decline. Stays a match:
+// nothing is searched.
 fn first_whole(call: Call<'_>) -> u16 {
     match call {
         Call::Make(

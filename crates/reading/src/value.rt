@@ -58,7 +58,9 @@ pub fn row_value(frames: &[f32], values: &[f32], slopes: &[f32], x: f32, row: Ta
 }
 
 // What a target's row reads at frame x. Stays over three slices: they need not be one length, and `Keys` asks that they are.
+// Inlined: a loop over frames then takes the row and its part of the keys apart once.
 #[tactic(auto, using(crate::proofs::Pass::read_is))]
+#[inline(always)]
 pub fn row_reading(
     frames: &[f32],
     values: &[f32],
